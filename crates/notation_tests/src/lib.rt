@@ -1,0 +1,3 @@
+// Cases of what is typed and what is told.
+#[cfg(test)]
+mod tests;
