@@ -1,8 +1,11 @@
 // Looks at frames by hand. The libraries `commands` and `notation` parse what is typed, and `reports` makes what is told.
 ghost use mathlib.Core.List.{map};
+ghost use mathlib.Core.Path.{_≡_};
 ghost use Rattle.std.specs.Of.String.{string-bytes};
 ghost use Rattle.faults.specs.Messages.{complaint};
 ghost use Rattle.bench.specs.Failures.{Tells, command-name};
+ghost use Rattle.bench.specs.Prints.{printed, Read, Answered};
+ghost use Rattle.commands.specs.Commands.{command-shown};
 
 mod help;
 
@@ -90,27 +93,48 @@ fn file_text(rt: &LibcRuntime, path: &str) -> Result<Vec<u8>, Failure> {
 }
 
 // What `read` tells of bit text from a place of this name.
-fn read_text(heap: Global, name: &str, text: &[u8]) -> Result<String, Failure> {
+fn read_text(heap: Global, name: &str, text: &[u8]) -> Result<String, Failure>
+    ensures { λ r. ⌜ Read r (now (name .entry)) (now (text .entry)) ⌝ }
+{
     match text_report(heap, text) {
         Ok(told) => Ok(told),
         Err(fault) => Err(fault_in(heap, name, fault)),
     }
 }
 
-fn answer(rt: &LibcRuntime, command: Command) -> Result<String, Failure> {
+fn read_source(rt: &LibcRuntime, source: Source) -> Result<String, Failure> {
+    match source {
+        Source::StandardInput => {
+            let text = standard_input(rt)?;
+            read_text(rt.alloc(), "standard input", text.as_slice())
+        }
+        Source::File(path) => {
+            let text = file_text(rt, path.as_str())?;
+            read_text(rt.alloc(), path.as_str(), text.as_slice())
+        }
+    }
+}
+
+// A text that was made is printed. Where it was not, memory ran out.
+fn printed(text: Result<String, AllocError>) -> Result<String, Failure>
+    ensures { λ r. ⌜ r ≡ printed text ⌝ }
+{
+    match text {
+        Ok(told) => Ok(told),
+        Err(_) => Err(Failure::Memory),
+    }
+}
+
+// What a command prints, or why it prints nothing.
+fn answer(rt: &LibcRuntime, help: &str, command: Command) -> Result<String, Failure>
+    ensures { λ r. ⌜ Answered (now (help .entry)) r (command-shown command) ⌝ }
+{
     let heap = rt.alloc();
     match command {
-        Command::Help => Ok(String::from_str(heap, HELP)?),
-        Command::Check(bytes) => Ok(check_report(heap, bytes.as_slice())?),
-        Command::Encode(bytes) => Ok(encode_report(heap, bytes.as_slice())?),
-        Command::Read(Source::StandardInput) => {
-            let text = standard_input(rt)?;
-            read_text(heap, "standard input", text.as_slice())
-        }
-        Command::Read(Source::File(path)) => {
-            let text = file_text(rt, path.as_str())?;
-            read_text(heap, path.as_str(), text.as_slice())
-        }
+        Command::Help => printed(String::from_str(heap, help)),
+        Command::Check(bytes) => printed(check_report(heap, bytes.as_slice())),
+        Command::Encode(bytes) => printed(encode_report(heap, bytes.as_slice())),
+        Command::Read(source) => read_source(rt, source),
     }
 }
 
@@ -120,7 +144,7 @@ fn run(rt: &LibcRuntime) -> Result<(), Failure> {
         Ok(command) => command,
         Err(fault) => return Err(fault_in_words(rt.alloc(), words.as_slice(), fault)),
     };
-    let text = answer(rt, command)?;
+    let text = answer(rt, HELP, command)?;
     match rt.print(text.as_str()) {
         Ok(()) => Ok(()),
         Err(e) => Err(Failure::Output(e)),
