@@ -46,8 +46,13 @@ def read(path):
         return f.read()
 
 
+def is_of_function(path):
+    """Whether the file answers one function's goals, so that it cites names that Rattle makes."""
+    return os.sep + "proofs" + os.sep in path and os.path.basename(path) in MADE
+
+
 def table(top):
-    """The names with a dash that the files of definitions and lemmas declare."""
+    """The names with a dash that the antt files declare, but for the goals that Rattle names."""
     found = declared(top)
     return {name: respelt(name) for name in found.union(BOUND) if "-" in name}
 
@@ -55,8 +60,10 @@ def table(top):
 def declared(top):
     found = set()
     for path in files(top):
-        if path.endswith(".antt") and os.path.basename(path) not in MADE:
-            found.update(m[1] for m in DECLARED.finditer(read(path)))
+        if path.endswith(".antt"):
+            text = read(path)
+            goals = set(re.findall(rf"\bgoal\.({NAME})", text)) if is_of_function(path) else set()
+            found.update(m[1] for m in DECLARED.finditer(text) if m[1] not in goals)
     return found
 
 
@@ -67,7 +74,7 @@ def older(top, names):
 
 def is_made(text, start, name, path):
     """Whether the word at start is one that Rattle makes, in a proof file of a function."""
-    if os.path.basename(path) not in MADE:
+    if not is_of_function(path):
         return False
     if re.search(rf"\bgoal\.{re.escape(name)}(?![^\s(){{}}.;,])", text):
         return True

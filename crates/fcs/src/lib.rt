@@ -70,7 +70,7 @@ fn stepped(register: u16, bit: bool) -> u16
 // The table's entry at an index: eight bit steps with bit 0 from the index. The clause `whole` says it of the whole table.
 pub fn table_entry(index: u8) -> u16
     ensures value { result ≡ table_entry index }
-    ensures* whole { do ⌜ (← (⟦FCS_TABLE⟧).exit) ≡ map table_entry (range_with_len 0 256) ⌝ }
+    ensures whole { FCS_TABLE ≡ map table_entry (range_with_len 0 256) }
 {
     entry_at(index as usize)
 }
@@ -79,7 +79,7 @@ pub fn table_entry(index: u8) -> u16
 fn entry_at(index: usize) -> u16
     requires { index < 256 }
     ensures value { result ≡ slice_index computed_table index }
-    ensures* whole { do ⌜ (← (⟦FCS_TABLE⟧).exit) ≡ computed_table ⌝ }
+    ensures whole { FCS_TABLE ≡ computed_table }
 {
     FCS_TABLE[index]
 }

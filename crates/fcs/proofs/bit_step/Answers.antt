@@ -13,11 +13,11 @@ compared true false x y = refl
 compared false true x y = refl
 compared false false x y = refl
 
-as-text : (r : ℕ) (b : Bool) → step_text r b ≡ bit_step r b
+as_text : (r : ℕ) (b : Bool) → step_text r b ≡ bit_step r b
 unfolding bit_step bit_0
-as-text r b =
+as_text r b =
     ap (λ n. cond (beq b (eqb n 1)) (r / 2) (bit_xor (r / 2) 0x8408)) (and_mask r 1)
     ∙ compared b (bit_0 r) (r / 2) (bit_xor (r / 2) 0x8408)
 
 pub returns : goal.returns
-returns c = c.stepped.ensures ∙ as-text c.args.register c.args.bit
+returns c = c.stepped.ensures ∙ as_text c.args.register c.args.bit

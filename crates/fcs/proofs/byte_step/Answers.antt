@@ -8,8 +8,8 @@ use Rattle.fcs.proofs.Table.{entry_is}
 use Rattle.fcs.proofs.byte_step.Goals as goal
 
 -- a byte's eight bits, by the entry at the low byte of the register and the byte
-by-table : (r b : ℕ) → b < 2 ^ 8 → byte_text r b ≡ register_after r (low_bits 8 b)
-by-table r b h =
+by_table : (r b : ℕ) → b < 2 ^ 8 → byte_text r b ≡ register_after r (low_bits 8 b)
+by_table r b h =
     let mixed = bit_xor r b in
     let high : mixed / 256 ≡ r / 256 = xor_shr r b 8 ∙ ap (bit_xor (r / 256)) (div-eq_of_lt h) ∙ xor_zero_r (r / 256) in
     ap₂ (λ i x. bit_xor (get_or computed_table i 0) x) (and_mask mixed 8) (sym high)
@@ -18,4 +18,4 @@ by-table r b h =
     ∙ sym (after_low_bits 8 r b h ∙ after_zeros 8 mixed)
 
 pub returns : goal.returns
-returns c = c.byte-stepped.ensures ∙ by-table c.args.register c.args.byte (search rules)
+returns c = c.byte_stepped.ensures ∙ by_table c.args.register c.args.byte (search rules)

@@ -7,7 +7,7 @@ pub loop-byte-preserved : goal.loop-byte-preserved
 loop-byte-preserved c =
     let bytes = c.args.bytes.now in
     let i = c.loop-byte.byte-index in
-    ap (λ r. register_after r (byte_bits (drop (i + 1) bytes))) c.byte-step-register.ensures
+    ap (λ r. register_after r (byte_bits (drop (i + 1) bytes))) c.byte_step-register.ensures
     ∙ sym (after_more c.loop-byte.register bytes i c.loop-byte-test.true)
     ∙ c.loop-byte.invariant
 

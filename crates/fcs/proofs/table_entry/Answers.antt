@@ -4,6 +4,6 @@ use Rattle.fcs.proofs.table_entry.Goals as goal
 
 pub returns : goal.returns
 returns c = record {
-  value = c.entry-at.ensures.value ∙ entry_is c.args.index (search rules);
-  whole = c.entry-at.ensures.whole ∙ table_is;
+  value = c.entry_at.ensures.value ∙ entry_is c.args.index (search rules);
+  whole = c.entry_at.ensures.whole ∙ table_is;
 }

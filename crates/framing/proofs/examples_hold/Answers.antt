@@ -8,11 +8,11 @@ use Rattle.framing.specs.declared.outcome.Verdict.TheVariants.{Ignored, Bad}
 use Rattle.framing.proofs.Packed.{length_bytes}
 use Rattle.framing.proofs.examples_hold.Goals as goal
 
-verdict-24 : (bits : List Bool) → length bits ≡ 24 → (judged bits).verdict ≡ Ignored
-verdict-24 bits e = ap (λ (n : ℕ). verdict_of n (matches bits)) e
+verdict_24 : (bits : List Bool) → length bits ≡ 24 → (judged bits).verdict ≡ Ignored
+verdict_24 bits e = ap (λ (n : ℕ). verdict_of n (matches bits)) e
 
-judged-25 : (bits : List Bool) → length bits ≡ 25 → judged bits ≡ record { verdict = Bad; n = 25; content = bytes (take 9 bits) }
-judged-25 bits e =
+judged_25 : (bits : List Bool) → length bits ≡ 25 → judged bits ≡ record { verdict = Bad; n = 25; content = bytes (take 9 bits) }
+judged_25 bits e =
     ap (λ (n : ℕ). record { verdict = verdict_of n (matches bits); n = n; content = bytes (take (n - 16) bits) }) e
 
 nine_bits : (bits : List Bool) → length bits ≡ 25 → length (judged bits).content ≡ 2
@@ -33,8 +33,8 @@ returns c = record {
   sixteen_ignored = refl;
   entry_1 = refl;
   entry_255 = refl;
-  left_24 = verdict-24;
-  left_25 = judged-25;
+  left_24 = verdict_24;
+  left_25 = judged_25;
   nine_bits = nine_bits;
   shared_flags = refl;
   shared_empty = refl;

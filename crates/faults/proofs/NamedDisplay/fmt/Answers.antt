@@ -7,13 +7,13 @@ use Rattle.faults.specs.Digits.{digit_glyph, hex_pair}
 use Rattle.faults.specs.Messages.{visible, named}
 use Rattle.faults.proofs.NamedDisplay.fmt.Goals as goal
 
-visible-below : (byte : ℕ) → visible byte ≡ true → byte < 128
-visible-below byte e = grind (arith, nat_tests)
+visible_below : (byte : ℕ) → visible byte ≡ true → byte < 128
+visible_below byte e = grind (arith, nat_tests)
 
 quoted : (c byte : ℕ) → c ≡ byte → visible byte ≡ true → 39 ∷ (encode c ++ 39 ∷ []) ≡ named byte
 unfolding named
 quoted c byte same e =
-    ap (λ l. 39 ∷ (l ++ 39 ∷ [])) (ap encode same ∙ encode_ascii byte (visible-below byte e))
+    ap (λ l. 39 ∷ (l ++ 39 ∷ [])) (ap encode same ∙ encode_ascii byte (visible_below byte e))
     ∙ sym (ap (λ v. cond v (39 ∷ byte ∷ 39 ∷ []) (codes "byte " ++ hex_pair byte)) e)
 
 numbered : (high low byte : ℕ) → high ≡ digit_glyph (byte / 16) → high < 128 → low ≡ digit_glyph (byte % 16) → low < 128 → visible byte ≡ false
