@@ -4,6 +4,8 @@
 // register; the register shifts right by one, and is exclusive-ored with 8408 hex if t is 1. Of a byte, bit 0 comes first.
 // The check sequence is the register with every bit inverted. It is sent after the bits, bit 0 first, so as bytes its low byte goes first.
 // Bits match, their check sequence included, if they leave the register at F0B8 hex.
+#![tactic(auto)]
+
 ghost use Rattle.std.specs.Prelude.{◌≡◌, ◌<◌, map, if◌then◌else◌, slice_index};
 ghost use Rattle.std.specs.List.{range_with_len};
 ghost use Rattle.fcs.specs.Fcs.{initial, bit_step, register_after, low_bits, byte_bits, table_entry, check_sequence, matches};

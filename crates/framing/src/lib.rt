@@ -3,6 +3,8 @@
 // A flag is 01111110. Between two flags the sender inserts a 0 after every five 1s in a row, and the reader deletes it again, so that no
 // flag and no abort (seven 1s in a row) appears inside a frame. The bits between two flags are a stretch; n is how many zero deletion
 // leaves of it. A stretch with n below 25 is ignored, with n from 25 to 31 bad, else good if all n bits match the check and bad if not.
+#![tactic(auto)]
+
 ghost use Rattle.std.specs.Prelude.{◌≡◌, map, IfOk};
 ghost use Rattle.framing.specs.Examples.{Examples};
 ghost use Rattle.framing.specs.Insertion.{frame_bits};

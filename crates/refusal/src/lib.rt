@@ -1,4 +1,6 @@
 // Every refusal of the link module, its lines and the pair: one enum, one number each.
+#![tactic(auto)]
+
 ghost use Rattle.std.specs.Prelude.{◌≡◌, Some};
 ghost use Rattle.refusal.specs.Refusals.{number_of, words_of, NumbersDiffer};
 

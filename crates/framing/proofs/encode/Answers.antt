@@ -10,7 +10,7 @@ use Rattle.framing.proofs.encode.Goals as goal
 pub returns : goal.returns
 returns c =
     let g = c.args.bytes.now in
-    let law = frame_law g (All-from_get_or (λ b. b < 256) g 0 (λ i l. omega (arith, c.type-inv.bytes i))) in
+    let law = frame_law g (All-from_get_or (λ b. b < 256) g 0 (λ i l. omega (arith, c.type_inv.bytes i))) in
     let bits = IfOk-weaker c.framed.result _ _ (λ v h. h ∙ sent_frame_is g) c.framed.ensures in
     record {
       bits = bits;

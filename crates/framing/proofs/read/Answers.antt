@@ -8,6 +8,6 @@ pub returns : goal.returns
 returns c =
     record {
       stretches =
-          IfOk-weaker c.stretches-of.result _ _ (λ v h. h ∙ received_is c.args.bits.now) c.stretches-of.ensures;
+          IfOk-weaker c.stretches_of.result _ _ (λ v h. h ∙ received_is c.args.bits.now) c.stretches_of.ensures;
       bursts = burst_law;
     }

@@ -6,7 +6,7 @@ use Rattle.framing.proofs.deletion.without_inserted.Goals as goal
 pub loop-bit-preserved : goal.loop-bit-preserved
 loop-bit-preserved c =
     turn kept_bit none_kept c.args.stretch.now c.loop-bit.bit-index false (kept_in c.loop-bit.deleter)
-    (kept_in c.bit.new.self) c.loop-bit-test.true c.loop-bit.invariant c.in-ok-bit.ensures
+    (kept_in c.bit.new.self) c.loop-bit-test.true c.loop-bit.invariant c.in_ok-bit.ensures
 
 pub returns : goal.returns
 returns c =

@@ -11,8 +11,8 @@ loop-at-preserved c =
     let m = c.min.result in
     let wide : at + m - at ≡ m = omega arith in
     packed_more (vec_items c.loop-at.out) (vec_items c.push.new.self) c.args.bits.now at m
-    c.byte-of.result c.loop-at-test.true c.min.ensures (c.byte-of.ensures ∙ ap (λ (k : ℕ). spelt (take k (drop at c.args.bits.now))) wide)
-    c.in-ok-push.ensures.items
+    c.byte_of.result c.loop-at-test.true c.min.ensures (c.byte_of.ensures ∙ ap (λ (k : ℕ). spelt (take k (drop at c.args.bits.now))) wide)
+    c.in_ok-push.ensures.items
     ∙ c.loop-at.invariant
 
 pub returns : goal.returns

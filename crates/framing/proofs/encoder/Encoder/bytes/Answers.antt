@@ -9,7 +9,7 @@ loop-byte-preserved c =
     let bytes = c.args.bytes.now in
     let i = c.loop-byte.byte-index in
     let s = line_of c.loop-byte.self in
-    ap (sent (byte_bits (drop (i + 1) bytes))) (c.in-ok-low-bits.ensures ∙ ap (λ (b : ℕ). sent (low_bits 8 b) s) c.from.ensures)
+    ap (sent (byte_bits (drop (i + 1) bytes))) (c.in_ok-low_bits.ensures ∙ ap (λ (b : ℕ). sent (low_bits 8 b) s) c.from.ensures)
     ∙ sym (bytes_more bytes i s c.loop-byte-test.true) ∙ c.loop-byte.invariant
 
 pub returns : goal.returns

@@ -8,11 +8,11 @@ pub loop-k-preserved : goal.loop-k-preserved
 unfolding bit_0
 loop-k-preserved c =
     let w = c.args.width in
-    let k = c.loop-k.-k in
+    let k = c.loop-k._k in
     let n = c.loop-k.rest in
-    ap (λ (s : Sent). sent (low_bits (w - (k + 1)) (n / 2)) s) c.in-ok-bit.ensures
+    ap (λ (s : Sent). sent (low_bits (w - (k + 1)) (n / 2)) s) c.in_ok-bit.ensures
     ∙ sym (low_bits_more w k n (line_of c.loop-k.self) c.loop-k-test.true) ∙ c.loop-k.invariant
 
 pub returns : goal.returns
 returns c =
-    sym (low_bits_none c.args.width c.loop-k.-k c.loop-k.rest (line_of c.loop-k.self) c.loop-k-test.false) ∙ c.loop-k.invariant
+    sym (low_bits_none c.args.width c.loop-k._k c.loop-k.rest (line_of c.loop-k.self) c.loop-k-test.false) ∙ c.loop-k.invariant

@@ -6,4 +6,4 @@ use Rattle.framing.proofs.encoder.Encoder.low_bits.Given as goal
 -- the bits that are left take the line to where all of them take it
 abbrev pub invariant-loop-k : goal.invariant-loop-k
 invariant-loop-k l =
-    sent (low_bits (l.width - l.-k) l.rest) (line_of l.self) ≡ sent (low_bits l.width l.value) (line_of l.initial.self)
+    sent (low_bits (l.width - l._k) l.rest) (line_of l.self) ≡ sent (low_bits l.width l.value) (line_of l.initial.self)

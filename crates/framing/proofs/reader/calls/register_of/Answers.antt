@@ -13,7 +13,7 @@ loop-bit-preserved c =
     let bits = c.args.bits.now in
     let i = c.loop-bit.bit-index in
     let b = get_or bits i false in
-    c.bit-step-register.ensures ∙ ap (λ (r : ℕ). bit_step r b) c.loop-bit.invariant
+    c.bit_step-register.ensures ∙ ap (λ (r : ℕ). bit_step r b) c.loop-bit.invariant
     ∙ sym (ap (register_after initial) (take_more bits i false c.loop-bit-test.true) ∙ after_push initial (take i bits) b)
 
 pub returns : goal.returns

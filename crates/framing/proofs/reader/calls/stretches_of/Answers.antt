@@ -6,7 +6,7 @@ use Rattle.framing.proofs.reader.calls.stretches_of.Goals as goal
 pub loop-bit-preserved : goal.loop-bit-preserved
 loop-bit-preserved c =
     turn received initial_state c.args.bits.now c.loop-bit.bit-index false (state_of c.loop-bit.reader)
-    (state_of c.bit.new.self) c.loop-bit-test.true c.loop-bit.invariant c.in-ok-bit.ensures
+    (state_of c.bit.new.self) c.loop-bit-test.true c.loop-bit.invariant c.in_ok-bit.ensures
 
 pub returns : goal.returns
 returns c =
