@@ -1,6 +1,6 @@
 -- Bits in bytes.
 use Rattle.std.specs.Prelude.{ℕ, ◌<◌, Bool, List, [], ◌∷◌}
-use Rattle.std.specs.List.{AllByRecursion as All}
+use Rattle.std.specs.List.{AllByRecursion}
 use Rattle.fcs.specs.Fcs.{spelt}
 
 -- bits in bytes, the first bit as bit 0 of the first byte; a last byte of fewer bits has 0 above them
@@ -17,4 +17,4 @@ bytes (a ∷ b ∷ c ∷ d ∷ e ∷ f ∷ g ∷ h ∷ more) = spelt (a ∷ b �
 
 -- every number of the list is a byte
 abbrev pub Bytes : List ℕ → Type 0
-Bytes g = All (λ b. b < 256) g
+Bytes g = AllByRecursion (λ b. b < 256) g
