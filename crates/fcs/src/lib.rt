@@ -114,8 +114,7 @@ fn register_after(bytes: &[u8]) -> u16
 
 // The check sequence of a byte list. It is sent bit 0 first, so its low byte goes first.
 // The clause `residue`: any bytes followed by their check sequence match.
-#[unsafe(no_mangle)]
-pub extern "C" fn fcs_check_sequence(bytes: &[u8]) -> u16
+pub fn fcs_check_sequence(bytes: &[u8]) -> u16
     ensures value { result ≡ check_sequence bytes.now }
     ensures residue { ResidueLaw }
 {
@@ -131,8 +130,7 @@ fn inverted_register(bytes: &[u8]) -> u16
 
 // 1 if the byte list matches, its check sequence included, and 0 if not.
 // The clause `burst`: errors in at most sixteen neighbouring bits are always seen.
-#[unsafe(no_mangle)]
-pub extern "C" fn fcs_matches(bytes: &[u8]) -> u8
+pub fn fcs_matches(bytes: &[u8]) -> u8
     ensures value { result ≡ (if matches (byte_bits bytes.now) then 1 else 0) }
     ensures burst { BurstLaw }
 {
