@@ -1,4 +1,6 @@
 // Looks at frames by hand. The libraries `commands` and `notation` parse what is typed, and `reports` makes what is told.
+#![tactic(auto)]
+
 ghost use Rattle.std.specs.Prelude.{◌≡◌, map, string_bytes};
 ghost use Rattle.faults.specs.Messages.{complaint};
 ghost use Rattle.bench.specs.Failures.{Tells, command_name};
@@ -13,6 +15,7 @@ use faults::{Fault, complaint};
 use reports::{check_report, encode_report, text_report};
 use std::alloc::{AllocError, Global};
 use std::io::Read;
+use std::process::ExitCode;
 use std::{env, fs, io};
 
 // Why the program ends with status 1.
@@ -151,10 +154,12 @@ fn tell(rt: &HostRuntime, failure: &Failure) {
     };
 }
 
-fn main(rt: HostRuntime) -> Result<(), Failure> {
-    let result = run(&rt);
-    if let Err(failure) = &result {
-        tell(&rt, failure);
+fn main(rt: HostRuntime) -> ExitCode {
+    match run(&rt) {
+        Ok(()) => ExitCode::SUCCESS,
+        Err(failure) => {
+            tell(&rt, &failure);
+            ExitCode::FAILURE
+        }
     }
-    result
 }
