@@ -9,7 +9,7 @@ pub record Meaning : Type 0 where
   pub last : ℕ
   pub waiting : List ℕ
 
--- Each level of the list is 0 or 1. (Past the end `get_or` gives its default, 0.)
+-- Each level of the list is 0 or 1. (Past the end `slice_index` gives 0.)
 abbrev pub Levels : List ℕ → Type 0
 Levels xs = (k : ℕ) → slice_index xs k < 2
 

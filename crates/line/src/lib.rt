@@ -1,4 +1,6 @@
 // The line between two modules: the trait, the law of every line, and the two lines that keep their levels in themselves.
+#![tactic(auto)]
+
 ghost use Rattle.std.specs.Prelude.{◌≡◌, ℕ, ◌<◌, ◌≤◌, length, OnOk};
 ghost use Rattle.std.specs.List.{slice_get};
 ghost use Rattle.line.specs.Meaning.{Meaning, Memory, Sound, admitted, if_accepted, put_answer, put_after, take_answer, take_after};

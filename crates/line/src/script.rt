@@ -11,7 +11,7 @@ use refusal::Refusal;
 
 /// One act, whichever it is.
 pub fn perform<L: Line>(line: &mut L, act: Act) -> Result<u8, Refusal>
-    ensures { Happens (shown meaning memory written) line.old act result line.new }
+    ensures { Happens (shown L.meaning L.memory L.written) line.old act result line.new }
 {
     match act {
         Act::Take => line.take(),
@@ -27,7 +27,7 @@ fn perform_at<L: Line>(
     n: usize,
 ) -> Result<u8, Refusal>
     requires { (n < length acts.now) × (n < length answers.old) }
-    ensures happens { Happens (shown meaning memory written) line.old (slice_index_or acts.now n Take) result line.new }
+    ensures happens { Happens (shown L.meaning L.memory L.written) line.old (slice_index_or acts.now n Take) result line.new }
     ensures noted { answers.new ≡ slice_set answers.old n result }
 {
     let r = perform(line, acts[n]);
@@ -39,9 +39,9 @@ fn perform_at<L: Line>(
 /// What comes of any acts: the line carries levels in order and loses, adds and alters none.
 pub fn run<L: Line>(line: &mut L, acts: &[Act], answers: &mut [Result<u8, Refusal>]) -> usize
     ensures count { result ≡ min (length acts.now) (length answers.old) }
-    ensures done { Done (Happens (shown meaning memory written)) line.old acts.now answers.new line.new }
+    ensures done { Done (Happens (shown L.meaning L.memory L.written)) line.old acts.now answers.new line.new }
     ensures rest { drop result answers.new ≡ drop result answers.old }
-    ensures carries { AlwaysCarries (shown meaning memory written) line.old }
+    ensures carries { AlwaysCarries (shown L.meaning L.memory L.written) line.old }
 {
     let most = acts.len().min(answers.len());
     for n in 0..most {

@@ -1,4 +1,6 @@
 // Numbers that look random and are the same in every run, for trials: xorshift64 of Marsaglia, by 13, 7 and 17.
+#![tactic(auto)]
+
 ghost use Rattle.std.specs.Prelude.{◌≡◌};
 ghost use Rattle.numbers.specs.Xorshift.{drawn_below, stepped};
 

@@ -9,8 +9,8 @@ loop-n-init g c = ((none, refl), refl)
 
 pub loop-n-preserved : goal.loop-n-preserved
 loop-n-preserved g c = (
-  done_more c.args.acts.now c.loop-n.answers _ c.loop-n.n _ _ (search rules) (search rules) c.perform-at.ensures.noted c.loop-n.invariant.0 c.perform-at.ensures.happens,
-  rest_done c.loop-n.answers _ c.args.answers.now c.loop-n.n _ c.perform-at.ensures.noted c.loop-n.invariant.1,
+  done_more c.args.acts.now c.loop-n.answers _ c.loop-n.n _ _ (search rules) (search rules) c.perform_at.ensures.noted c.loop-n.invariant.0 c.perform_at.ensures.happens,
+  rest_done c.loop-n.answers _ c.args.answers.now c.loop-n.n _ c.perform_at.ensures.noted c.loop-n.invariant.1,
 )
 
 pub returns : goal.returns

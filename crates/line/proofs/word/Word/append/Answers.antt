@@ -5,17 +5,15 @@ use Rattle.line.proofs.Counting.{line_appended}
 use Rattle.line.proofs.Shifting.{merged, bits_kept, bit_added, still_clear}
 use Rattle.line.proofs.word.Word.append.Goals as goal
 
-pub invariant-of-self : goal.invariant-of-self
-invariant-of-self c =
+pub invariant_of-self : goal.invariant_of-self
+invariant_of-self c =
     let s = c.args.self.now in
     let l = c.args.level in
-    let e = c.joined.ensures ∙ merged l l s.count s.levels refl c.requires.0 c.requires.1 s.clear in (
-      omega arith,
-      (
-        subst (λ v. v < 2 ^ (s.count + 1)) (sym e) (still_clear l s.count s.levels c.requires.0 s.clear),
-        tt,
-      ),
-    )
+    let e = c.joined.ensures ∙ merged l l s.count s.levels refl c.requires.0 c.requires.1 s.clear in
+    record {
+      within = omega arith;
+      clear = subst (λ v. v < 2 ^ (s.count + 1)) (sym e) (still_clear l s.count s.levels c.requires.0 s.clear);
+    }
 
 pub returns : goal.returns
 returns c =

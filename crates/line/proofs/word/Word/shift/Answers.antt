@@ -6,10 +6,10 @@ use Rattle.line.proofs.Flags.{byte_of, flag_of}
 use Rattle.line.proofs.Shifting.{half_clear, lowest, bits_down}
 use Rattle.line.proofs.word.Word.shift.Goals as goal
 
-pub invariant-of-self : goal.invariant-of-self
-invariant-of-self c =
+pub invariant_of-self : goal.invariant_of-self
+invariant_of-self c =
     let s = c.args.self.now in
-    (omega arith, (half_clear s.levels s.count (s.count - 1) (omega arith) s.clear, tt))
+    record { within = omega arith; clear = half_clear s.levels s.count (s.count - 1) (omega arith) s.clear }
 
 pub returns : goal.returns
 returns c =
