@@ -1,4 +1,6 @@
 // A line of two places: an example of a line of one's own (docs/WRITING_A_LINE.md).
+#![tactic(auto)]
+
 ghost use Rattle.std.specs.Prelude.{◌≡◌};
 ghost use Rattle.line.specs.Meaning.{fresh, no_memory};
 ghost use Rattle.sample_line.specs.TwoPlaces.{two_places, two_places_sound};
