@@ -1,4 +1,6 @@
 // The two layers over any line: NRZI and the crossed pair.
+#![tactic(auto)]
+
 pub mod crossed;
 pub mod nrzi;
 

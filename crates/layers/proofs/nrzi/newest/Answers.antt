@@ -4,7 +4,7 @@ use Rattle.layers.proofs.nrzi.newest.Goals as goal
 pub unreachable-requires : goal.unreachable-requires
 unreachable-requires g c =
     let m = g.L.Line.meaning c.args.line.now in
-    newest_there m.last m.waiting _ _ c.count.ensures c.level-before.ensures c.in-None.is
+    newest_there m.last m.waiting _ _ c.count.ensures c.level_before.ensures c.in-None.is
 
 pub returns : goal.returns
 returns g c =
