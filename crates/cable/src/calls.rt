@@ -26,7 +26,7 @@ fn raise(bytes: &mut [u8], n: usize)
 // A cable as it is made.
 fn made<'a>(bytes: &'a mut [u8]) -> Cable<'a>
     ensures meaning { cable_meaning result ≡ fresh (places_over (length bytes.old)) }
-    ensures memory { cable_memory result ≡ record { bytes = fresh_bytes bytes.entry.now; next = 0; borrows = bytes.entry.ghost_name ∷ [] } }
+    ensures memory { cable_memory result ≡ record { bytes = fresh_bytes bytes.old; next = 0; borrows = bytes.entry.ghost_name ∷ [] } }
 {
     let places = bytes.len().min(MOST);
     raise(bytes, places);
@@ -43,7 +43,7 @@ impl<'a> Cable<'a> {
     /// Whatever is put and taken from then on, accepted put number i, from 0, writes byte i modulo places, and nothing else writes one.
     pub fn new(bytes: &'a mut [u8]) -> Self
         ensures meaning { cable_meaning result ≡ fresh (places_over (length bytes.old)) }
-        ensures memory { cable_memory result ≡ record { bytes = fresh_bytes bytes.entry.now; next = 0; borrows = bytes.entry.ghost_name ∷ [] } }
+        ensures memory { cable_memory result ≡ record { bytes = fresh_bytes bytes.old; next = 0; borrows = bytes.entry.ghost_name ∷ [] } }
         ensures round { AlwaysRound bytes.old result }
     {
         made(bytes)

@@ -1,4 +1,6 @@
 // The line over the caller's bytes.
+#![tactic(auto)]
+
 pub mod calls;
 pub mod over;
 
