@@ -1,7 +1,8 @@
 use Rattle.std.proofs.Common.{◌≡◌, sym, ap, ◌∙◌}
 use Rattle.layers.specs.Layers.{crossed, inverted}
-use Rattle.line.specs.Meaning.{if_accepted, put_answer, put_after}
+use Rattle.line.specs.Meaning.{put_answer, put_after}
 use Rattle.layers.proofs.Crossing.{crossed_put_answer, crossed_put_after}
+use Rattle.layers.proofs.Layered.{layer_stored}
 use Rattle.layers.proofs.crossed.CrossedLine.put.Goals as goal
 
 pub returns : goal.returns
@@ -15,8 +16,5 @@ returns g c =
     record {
       answer = c.put.ensures.answer ∙ ap (put_answer m) e ∙ sym answer;
       after = ap crossed (c.put.ensures.after ∙ ap (put_after m) e) ∙ sym (crossed_put_after m l low);
-      stored =
-          c.put.ensures.stored
-          ∙ ap (λ x. if_accepted (put_answer m x) (g.L.Line.written below x) (g.L.Line.memory below)) e
-          ∙ ap (λ a. if_accepted a (g.L.Line.written below (inverted l)) (g.L.Line.memory below)) (sym answer);
+      stored = layer_stored m (g.L.Line.written below) (g.L.Line.memory below) _ _ (inverted l) _ c.put.ensures.stored e answer;
     }

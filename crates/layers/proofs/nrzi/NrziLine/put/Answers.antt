@@ -2,8 +2,9 @@ use Rattle.std.proofs.Common.{◌≡◌, ◌<◌, sym, ap, ◌∙◌, subst, ari
 use Rattle.std.proofs.lemmas.Bool.{le-ltb}
 use Rattle.line.specs.Levels.{level_of}
 use Rattle.layers.specs.Layers.{encoded, encoded_on, nrzi_over}
-use Rattle.line.specs.Meaning.{if_accepted, put_answer, put_after}
+use Rattle.line.specs.Meaning.{put_answer, put_after}
 use Rattle.layers.proofs.Differences.{nrzi_put_answer, nrzi_put_after, newest_low}
+use Rattle.layers.proofs.Layered.{layer_stored}
 use Rattle.layers.proofs.nrzi.NrziLine.put.Goals as goal
 
 pub encode-requires : goal.encode-requires
@@ -28,8 +29,5 @@ returns g c =
       answer = c.put.ensures.answer ∙ ap (put_answer m) e ∙ sym answer;
       after = ap (λ x. nrzi_over x a) (c.put.ensures.after ∙ ap (put_after m) e) ∙ sym (nrzi_put_after m a l s low);
       below = let t = le-ltb 1 l low in c.put.ensures.after ∙ ap (put_after m) e ∙ rw t;
-      stored =
-          c.put.ensures.stored
-          ∙ ap (λ x. if_accepted (put_answer m x) (g.L.Line.written below x) (g.L.Line.memory below)) e
-          ∙ ap (λ r. if_accepted r (g.L.Line.written below (encoded_on m l)) (g.L.Line.memory below)) (sym answer);
+      stored = layer_stored m (g.L.Line.written below) (g.L.Line.memory below) _ _ (encoded_on m l) _ c.put.ensures.stored e answer;
     }
