@@ -1,5 +1,6 @@
 // Runs the same random puts, takes and questions through every kind of line and many piles, and through a plain list.
 // It prints a line for each pile, and the file `stdout` of this crate has what it must print.
+#![tactic(auto)]
 
 mod bytes;
 mod piles;
