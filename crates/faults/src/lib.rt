@@ -1,4 +1,6 @@
 // What is wrong with what was typed, and where.
+#![tactic(auto)]
+
 ghost use Rattle.std.specs.Prelude.{◌≡◌, ◌/◌, ◌%◌, ◌<◌, IfOk, Some, string_bytes};
 ghost use Rattle.faults.specs.declared.Fault.TheVariants.{Memory};
 ghost use Rattle.faults.specs.Digits.{digit_glyph};

@@ -24,15 +24,15 @@ numbered high low byte h hs l ls e =
     ∙ ap₂ (λ x y. codes "byte " ++ (x ∷ y ∷ [])) h l
     ∙ sym (ap (λ v. cond v (39 ∷ byte ∷ 39 ∷ []) (codes "byte " ++ hex_pair byte)) e)
 
-pub returns-then-is-visible-clause-writes : goal.returns-then-is-visible-clause-writes
-returns-then-is-visible-clause-writes g c =
+pub returns-then-is_visible-clause-writes : goal.returns-then-is_visible-clause-writes
+returns-then-is_visible-clause-writes g c =
     subst (λ l. WritesOnOk g.W.Write.write_str_gives c.args.f.now c.write.result l c.write.new.self)
-    (quoted c.from-c.result c.args.self.now.0 c.from-c.ensures (sym c.if-is-visible.ensures)) c.write.ensures.writes
+    (quoted c.from-c.result c.args.self.now.0 c.from-c.ensures (sym c.if-is_visible.ensures)) c.write.ensures.writes
 
-pub returns-else-is-visible-clause-writes : goal.returns-else-is-visible-clause-writes
-returns-else-is-visible-clause-writes g c =
-    let w = c.write-else-is-visible in
-    let d = c.hex-digits-high in
+pub returns-else-is_visible-clause-writes : goal.returns-else-is_visible-clause-writes
+returns-else-is_visible-clause-writes g c =
+    let w = c.write-else-is_visible in
+    let d = c.hex_digits-high in
     subst (λ l. WritesOnOk g.W.Write.write_str_gives c.args.f.now w.result l w.new.self)
-    (numbered d.result.0 d.result.1 c.args.self.now.0 (ap (λ p. p.0) d.ensures.glyphs) d.ensures.ascii.0 (ap (λ p. p.1) d.ensures.glyphs) d.ensures.ascii.1 (sym c.if-is-visible.ensures))
+    (numbered d.result.0 d.result.1 c.args.self.now.0 (ap (λ p. p.0) d.ensures.glyphs) d.ensures.ascii.0 (ap (λ p. p.1) d.ensures.glyphs) d.ensures.ascii.1 (sym c.if-is_visible.ensures))
     w.ensures.writes
