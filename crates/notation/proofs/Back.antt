@@ -1,6 +1,6 @@
 -- What is rendered is read back. Assumes nothing.
 use Rattle.std.proofs.Common.{◌≡◌, ℕ, suc, ◌+◌, ◌*◌, ◌/◌, ◌%◌, ◌<◌, Bool, true, false, cond, eqb, List, [], ◌∷◌, ◌++◌, map, length, Some, None, Ok, Option, sym, refl, ap, ◌∙◌, append_assoc, append-nil, arith}
-use Rattle.std.specs.List.{flat_map, AllByRecursion as All}
+use Rattle.std.specs.List.{flat_map, AllByRecursion}
 use Rattle.std.proofs.lemmas.List.FromFn.{get_or-map-range_with_len}
 use Rattle.std.proofs.lemmas.List.{flat_map_more}
 use Rattle.std.proofs.lemmas.Bool.{true≢false}
@@ -74,7 +74,7 @@ pair_back place byte done h =
     ∙ turn_one step (Some (byte / 16), done) (None, done ++ (byte / 16 * 16 + byte % 16) ∷ []) (digit_glyph (byte % 16)) [] 1 (read_digit (place + 1) 1 (byte % 16) (Some (byte / 16)) done (omega arith)))
     ∙ ap (λ b. Ok (done ++ b ∷ [])) same
 
-pairs_back : (bytes : List ℕ) (place : ℕ) (done : List ℕ) → All (λ b. b < 256) bytes → in_turn word_read place done (map hex_pair bytes) ≡ Ok (done ++ bytes)
+pairs_back : (bytes : List ℕ) (place : ℕ) (done : List ℕ) → AllByRecursion (λ b. b < 256) bytes → in_turn word_read place done (map hex_pair bytes) ≡ Ok (done ++ bytes)
 pairs_back [] place done h = ap (λ l. Ok l) (sym (append-nil done))
 pairs_back (b ∷ bytes) place done h =
     turn_one word_read done (done ++ b ∷ []) (hex_pair b) (map hex_pair bytes) place (pair_back place b done h.0)

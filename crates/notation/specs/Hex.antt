@@ -2,7 +2,7 @@
 use Rattle.std.specs.Prelude.{◌≡◌, ℕ, ◌+◌, ◌-◌, ◌*◌, ◌/◌, ◌%◌, ◌<◌, Bool, cond, ◌&&◌, List, [], ◌∷◌, ◌++◌, length, Some, None, Ok, Err, Option, Result, ◌==◌, nat_le}
 use Rattle.faults.specs.declared.Fault.{Fault}
 use Rattle.faults.specs.declared.Fault.TheVariants.{EmptyWord, NoHexDigit, OddDigits}
-use Rattle.std.specs.List.{AllByRecursion as All, flat_map}
+use Rattle.std.specs.List.{AllByRecursion, flat_map}
 use Rattle.faults.specs.Digits.{hex_pair}
 use Rattle.notation.specs.Reading.{in_turn}
 
@@ -82,4 +82,4 @@ cut_at_blanks word (c ∷ cs) = cond (c == 32) (word_if_any word ++ cut_at_blank
 
 -- the text of bytes, as words, is read as these bytes
 abbrev pub ReadBack : Type 0
-ReadBack = (bytes : List ℕ) → All (λ b. b < 256) bytes → words_read (cut_at_blanks [] (hex_text bytes)) ≡ Ok bytes
+ReadBack = (bytes : List ℕ) → AllByRecursion (λ b. b < 256) bytes → words_read (cut_at_blanks [] (hex_text bytes)) ≡ Ok bytes

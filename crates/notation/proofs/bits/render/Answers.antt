@@ -6,8 +6,8 @@ use Rattle.notation.proofs.bits.render.Goals as goal
 pub loop-bit-preserved : goal.loop-bit-preserved
 loop-bit-preserved c =
     let bits = c.args.bits.now in
-    c.in-ok-push-ascii.ensures
-    ∙ (λ k. c.loop-bit.invariant k ++ (c.bit-character.ensures k ∷ []))
+    c.in_ok-push_ascii.ensures
+    ∙ (λ k. c.loop-bit.invariant k ++ (c.bit_character.ensures k ∷ []))
     ∙ sym (map_more bit_glyph bits c.loop-bit.bit-index false (search rules))
 
 pub returns : goal.returns

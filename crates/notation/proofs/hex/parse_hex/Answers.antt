@@ -10,21 +10,21 @@ word_at : (words : List (String Global)) (i : ℕ) (w : String Global) (text : L
     → get_or (map string_bytes words) i [] ≡ text
 word_at words i w text h is e = get_or-map string_bytes words i w [] h ∙ ap string_bytes (sym is) ∙ sym e
 
-pub returns-in-err-read-word : goal.returns-in-err-read-word
-returns-in-err-read-word c =
+pub returns-in_err-read_word : goal.returns-in_err-read_word
+returns-in_err-read_word c =
     let words = map string_bytes c.args.words.now in
-    let at = word_at _ c.loop-i.i c.index-words-i.result c.as-bytes.result.now (search rules) c.index-words-i.is c.as-bytes.ensures.value in
+    let at = word_at _ c.loop-i.i c.index-words-i.result c.as_bytes.result.now (search rules) c.index-words-i.is c.as_bytes.ensures.value in
     let within : c.loop-i.i < length words = simp length-map (search rules) in
-    answers_err _ _ _ c.in-err-read-word.field-0.0 c.from-residual.ensures.1
+    answers_err _ _ _ c.in_err-read_word.field-0.0 c.from_residual.ensures.1
     (if_told _ _ _
     (λ e. sym c.loop-i.invariant ∙ turn_fault word_read _ words c.loop-i.i [] _ within (ap (word_read c.loop-i.i _) at ∙ e))
-    c.in-err-read-word.ensures)
+    c.in_err-read_word.ensures)
 
 pub loop-i-preserved : goal.loop-i-preserved
 loop-i-preserved c =
     let words = map string_bytes c.args.words.now in
-    let at = word_at _ c.loop-i.i c.index-words-i.result c.as-bytes.result.now (search rules) c.index-words-i.is c.as-bytes.ensures.value in
-    turn_more word_read _ _ words c.loop-i.i [] (simp length-map (search rules)) (ap (word_read c.loop-i.i _) at ∙ c.in-ok-read-word.ensures) ∙ c.loop-i.invariant
+    let at = word_at _ c.loop-i.i c.index-words-i.result c.as_bytes.result.now (search rules) c.index-words-i.is c.as_bytes.ensures.value in
+    turn_more word_read _ _ words c.loop-i.i [] (simp length-map (search rules)) (ap (word_read c.loop-i.i _) at ∙ c.in_ok-read_word.ensures) ∙ c.loop-i.invariant
 
 pub returns : goal.returns
 returns c = sym c.loop-i.invariant ∙ turn_all word_read _ (map string_bytes c.args.words.now) c.loop-i.i (simp length-map (search rules))

@@ -9,7 +9,7 @@ pub loop-byte-preserved : goal.loop-byte-preserved
 loop-byte-preserved c =
     let bytes = c.args.bytes.now in
     let i = c.loop-byte.byte-index in
-    c.in-ok-push-word.ensures
+    c.in_ok-push_word.ensures
     ∙ ap (λ text. with_word text (hex_pair (get_or bytes i 0))) c.loop-byte.invariant
     ∙ sym (ap hex_text (take_more bytes i 0 (search rules)) ∙ hex_text_push (take i bytes) (get_or bytes i 0))
 
