@@ -1,4 +1,6 @@
 // The command line.
+#![tactic(auto)]
+
 ghost use Rattle.std.specs.Prelude.{◌≡◌, map, string_bytes};
 ghost use Rattle.commands.specs.Commands.{word_name, source_shown, source_meant, command_shown, named_meant, command_meant};
 ghost use Rattle.faults.specs.Answers.{Answers};

@@ -11,5 +11,5 @@ pub returns-in-len1-up : goal.returns-in-len1-up
 returns-in-len1-up c =
     let rest = take (length c.args.words.now - 1) (drop 1 c.args.words.now) in
     let words = first_word c.args.words.now c.name-item.result rest (search rules) c.name-item.is refl in
-    let name = c.word-name.ensures ∙ ap word_name c.as-str.ensures.value in
-    subst (Answers command_shown c.parse-named.result) (ap (λ n. named_meant n (map string_bytes rest)) name ∙ sym (ap command_meant words)) c.parse-named.ensures
+    let name = c.word_name.ensures ∙ ap word_name c.as_str.ensures.value in
+    subst (Answers command_shown c.parse_named.result) (ap (λ n. named_meant n (map string_bytes rest)) name ∙ sym (ap command_meant words)) c.parse_named.ensures

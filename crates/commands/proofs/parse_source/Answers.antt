@@ -14,12 +14,12 @@ returns-then-eq c =
 pub returns-in-empty : goal.returns-in-empty
 returns-in-empty c = ap source_meant (no_words c.args.words.now (search rules))
 
-pub returns-in-ok-clone : goal.returns-in-ok-clone
-returns-in-ok-clone c =
+pub returns-in_ok-clone-in-len1 : goal.returns-in_ok-clone-in-len1
+returns-in_ok-clone-in-len1 c =
     let path = string_bytes c.path-item.result in
     let is : bytes_eq path (codes "-") ≡ false = search (rules, bytes_eq-Decides) in
     ap source_meant (one_word c.args.words.now c.path-item.result (search rules) c.path-item.is)
-    ∙ ap (λ t. Ok (cond t input (file path))) is ∙ ap (λ l. Ok (file l)) (sym c.in-ok-clone.ensures.cases)
+    ∙ ap (λ t. Ok (cond t input (file path))) is ∙ ap (λ l. Ok (file l)) (sym c.in_ok-clone-in-len1.ensures.cases)
 
-pub returns-in-default : goal.returns-in-default
-returns-in-default c = more_words c.args.words.now (search rules)
+pub returns-in_default : goal.returns-in_default
+returns-in_default c = more_words c.args.words.now (search rules)

@@ -3,8 +3,8 @@ use Rattle.std.proofs.lemmas.Slice.Eq.{bytes_eq-Decides}
 use Rattle.std.specs.Str.{bytes_eq}
 use Rattle.commands.proofs.word_name.Goals as goal
 
-pub returns-in-default : goal.returns-in-default
-returns-in-default c =
+pub returns-in_default : goal.returns-in_default
+returns-in_default c =
     let w = c.args.word.now in
     let a : bytes_eq w (codes "help") ≡ false = search (rules, bytes_eq-Decides) in
     let b : bytes_eq w (codes "--help") ≡ false = search (rules, bytes_eq-Decides) in
