@@ -21,7 +21,7 @@ WORD = re.compile(rf"(?<![^\s(){{}}.;,:@\"«»`\[\]])({NAME})")
 DECLARED = re.compile(r"(?m)^ *(?:(?:abbrev|unfoldable|pub|record|data|module|let) +)*([A-Za-z][^\s(){}.;,:@\"]*)(?: +[({][^\n]*?[)}])* *:(?= |$)")
 MADE = ("Answers.antt", "Invariants.antt", "Choices.antt", "Proof.antt")
 # Names with a dash that a clause of a definition or a lemma binds, and no declaration.
-BOUND = ("help-text", "to-come")
+BOUND = ("help-text", "to-come", "made-as-told")
 QUOTED = re.compile(r'("(?:\\.|[^"\\\n])*")')
 
 

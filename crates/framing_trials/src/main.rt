@@ -1,5 +1,6 @@
 // Compares the check sequence and framing with outside data, and with frames whole and damaged. It prints what it tried, and the file
 // `stdout` of this crate has what it must print.
+#![tactic(auto)]
 
 mod damage;
 mod fcstab;

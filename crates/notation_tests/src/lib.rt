@@ -1,3 +1,5 @@
+#![tactic(auto)]
+
 // Cases of what is typed and what is told.
 #[cfg(test)]
 mod tests;

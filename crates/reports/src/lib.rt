@@ -1,4 +1,6 @@
 // What the commands tell.
+#![tactic(auto)]
+
 ghost use Rattle.std.specs.Prelude.{◌≡◌, ℕ, ◌+◌, ◌^◌, ◌<◌, ◌≤◌, List, ◌++◌, map, length, IfOk, string_bytes, OnOk};
 ghost use Rattle.framing.specs.Reading.{as_read, good_content, good_contents};
 ghost use Rattle.fcs.specs.Fcs.{matches, byte_bits};

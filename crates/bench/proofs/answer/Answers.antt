@@ -14,7 +14,7 @@ text (Err e) told is = tt
 pub returns-in-Check : goal.returns-in-Check
 returns-in-Check c =
     let answered = c.printed-in-Check in
-    let made-as-told =
-    subst (λ bytes. IfOk c.check-report.result (λ s. string_bytes s ≡ check_told bytes)) c.as-slice.ensures.value c.check-report.ensures in
+    let made_as_told =
+    subst (λ bytes. IfOk c.check_report.result (λ s. string_bytes s ≡ check_told bytes)) c.as_slice.ensures.value c.check_report.ensures in
     subst (λ command. Answered c.args.help.now answered.result (command_shown command)) (sym c.in-Check.is)
-    (subst (λ r. Text r (check_told (vec_items c.in-Check.bytes))) (sym answered.ensures) (text c.check-report.result _ made-as-told))
+    (subst (λ r. Text r (check_told (vec_items c.in-Check.bytes))) (sym answered.ensures) (text c.check_report.result _ made_as_told))

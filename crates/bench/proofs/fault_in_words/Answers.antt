@@ -6,12 +6,12 @@ use Rattle.bench.proofs.fault_in_words.Goals as goal
 
 pub returns-in-empty : goal.returns-in-empty
 returns-in-empty c =
-    subst (λ name. Tells c.fault-in.result (complaint name c.args.fault))
-    (sym (ap command_name (no_words c.args.words.now (search rules)))) c.fault-in.ensures
+    subst (λ name. Tells c.fault_in.result (complaint name c.args.fault))
+    (sym (ap command_name (no_words c.args.words.now (search rules)))) c.fault_in.ensures
 
 pub returns-in-len1-up : goal.returns-in-len1-up
 returns-in-len1-up c =
     let words = c.args.words.now in
     let first = first_word words c.name-item.result (take (length words - 1) (drop 1 words)) (search rules) c.name-item.is refl in
-    let told = c.fault-in-in-len1-up in
-    subst (λ name. Tells told.result (complaint name c.args.fault)) (c.as-str.ensures.value ∙ sym (ap command_name first)) told.ensures
+    let told = c.fault_in-in-len1-up in
+    subst (λ name. Tells told.result (complaint name c.args.fault)) (c.as_str.ensures.value ∙ sym (ap command_name first)) told.ensures

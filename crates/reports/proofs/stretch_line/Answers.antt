@@ -4,6 +4,6 @@ use Rattle.reports.proofs.stretch_line.Goals as goal
 
 pub returns : goal.returns
 returns c =
-    let content = c.as-str.ensures.value ∙ c.in-ok-content.ensures ∙ ap hex_or_none c.as-slice.ensures.value in
-    subst (λ l. IfOk c.stretch-words.result (λ s. string_bytes s ≡ l))
-    (λ k. stretch_words (c.args.place + 1) (c.verdict-word.ensures k) c.args.stretch.now.n (content k)) c.stretch-words.ensures
+    let content = c.as_str.ensures.value ∙ c.in_ok-content.ensures ∙ ap hex_or_none c.as_slice.ensures.value in
+    subst (λ l. IfOk c.stretch_words.result (λ s. string_bytes s ≡ l))
+    (λ k. stretch_words (c.args.place + 1) (c.verdict_word.ensures k) c.args.stretch.now.n (content k)) c.stretch_words.ensures
