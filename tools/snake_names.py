@@ -8,7 +8,8 @@ A name that the repository's antt files declare with a dash, as frame-bits or Go
 wherever it is cited: in specs/, proofs/, clauses, must-fail edits, comments and, between backquotes, in README.md and docs/.
 Names that Rattle makes (goals, steps and their fields), Rust's names and texts in quotes stay.
 Where two names fall together in one file, it says so; the Rust function beside a definition of its own name is no clash, since no clause can name it.
---check writes nothing, and its exit status is 1 where two names fall together. --names writes nothing and prints each name, old and new.
+--check writes nothing, and its exit status is 1 where two names fall together. --names writes nothing and prints each name that it turns, old and new;
+port.py has then turned some already, those that a library of the kit has too, each by the same rule.
 """
 
 import os
@@ -108,8 +109,8 @@ def outside_quotes(text, path, names):
 
 def clashes(text, path, names, changed):
     """The new spellings that another word of this file has already, or that two of its words would have."""
-    words = {m[1] for m in WORD.finditer(text)}
-    # a Rust function may stand beside the definition that it is named as
+    # a Rust function may have the name of the definition that it meets: so may the folder of its proof in a path
+    words = {m[1] for m in WORD.finditer(re.sub(r"(?m)^use [^\s{]+", "", text))}
     words -= set(re.findall(r"\bfn (\w+)", text)) if path.endswith(".rt") else set()
     for old in sorted(changed):
         for other in sorted(words - {old}):
