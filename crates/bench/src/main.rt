@@ -1,7 +1,7 @@
 // Looks at frames by hand. The libraries `commands` and `notation` parse what is typed, and `reports` makes what is told.
 #![tactic(auto)]
 
-ghost use Rattle.std.specs.Prelude.{◌≡◌, map, string_bytes};
+ghost use Rattle.std.specs.Prelude.{◌≡◌, map, string_bytes, IsOk, IsErr};
 ghost use Rattle.faults.specs.Messages.{complaint};
 ghost use Rattle.bench.specs.Failures.{Tells, command_name};
 ghost use Rattle.bench.specs.Prints.{printed, Read, Answered};
@@ -154,12 +154,21 @@ fn tell(rt: &HostRuntime, failure: &Failure) {
     };
 }
 
-fn main(rt: HostRuntime) -> ExitCode {
-    match run(&rt) {
+// The status that the program ends with: 0, or 1 after a failure.
+fn status(outcome: &Result<(), Failure>) -> ExitCode
+    ensures done { IsOk outcome.now → result ≡ ExitCode.SUCCESS }
+    ensures failed { IsErr outcome.now → result ≡ ExitCode.FAILURE }
+{
+    match outcome {
         Ok(()) => ExitCode::SUCCESS,
-        Err(failure) => {
-            tell(&rt, &failure);
-            ExitCode::FAILURE
-        }
+        Err(_) => ExitCode::FAILURE,
     }
+}
+
+fn main(rt: HostRuntime) -> ExitCode {
+    let outcome = run(&rt);
+    if let Err(failure) = &outcome {
+        tell(&rt, failure);
+    }
+    status(&outcome)
 }
