@@ -6,7 +6,7 @@
 // Bits match, their check sequence included, if they leave the register at F0B8 hex.
 #![tactic(auto)]
 
-ghost use Rattle.std.specs.Prelude.{◌≡◌, ◌<◌, map, if◌then◌else◌, slice_index};
+ghost use Rattle.std.specs.Prelude.{◌≡◌, ◌<◌, map, slice_index};
 ghost use Rattle.std.specs.List.{range_with_len};
 ghost use Rattle.fcs.specs.Fcs.{initial, bit_step, register_after, low_bits, byte_bits, table_entry, check_sequence, matches};
 ghost use Rattle.fcs.specs.Laws.{ResidueLaw, BurstLaw};
@@ -128,18 +128,11 @@ fn inverted_register(bytes: &[u8]) -> u16
     register_after(bytes) ^ FCS_INVERT
 }
 
-// 1 if the byte list matches, its check sequence included, and 0 if not.
+// Whether the byte list matches, its check sequence included.
 // The clause `burst`: errors in at most sixteen neighbouring bits are always seen.
-pub fn fcs_matches(bytes: &[u8]) -> u8
-    ensures value { result ≡ (if matches (byte_bits bytes.now) then 1 else 0) }
+pub fn fcs_matches(bytes: &[u8]) -> bool
+    ensures value { result ≡ matches (byte_bits bytes.now) }
     ensures burst { BurstLaw }
-{
-    u8::from(leaves_residue(bytes))
-}
-
-// Whether the list leaves the register at the residue.
-fn leaves_residue(bytes: &[u8]) -> bool
-    ensures { result ≡ matches (byte_bits bytes.now) }
 {
     register_after(bytes) == FCS_RESIDUE
 }

@@ -22,5 +22,5 @@ pub extern "C" fn fcs_matches(bytes: &[u8]) -> u8
     ensures value { result ≡ (if matches (byte_bits bytes.now) then 1 else 0) }
     ensures burst { BurstLaw }
 {
-    fcs::fcs_matches(bytes)
+    u8::from(fcs::fcs_matches(bytes))
 }

@@ -1,5 +1,6 @@
 pub mod Bytes
 pub mod Reading
+pub mod Words
 pub mod Insertion
 pub mod Laws
 pub mod Stages

@@ -1,4 +1,8 @@
 // What the reading says of the bits between two flags.
+ghost use Rattle.std.specs.Prelude.{Some};
+ghost use Rattle.framing.specs.Words.{verdict_word};
+
+use std::fmt;
 
 // Bits between two flags: too few to be a frame, a damaged frame, or a good one.
 #[derive(Clone, Copy, PartialEq, Eq, Debug)]
@@ -11,8 +15,21 @@ pub enum Verdict {
     Good,
 }
 
+// The verdict in one word.
+impl fmt::Display for Verdict {
+    ghost output = { λ verdict. Some (verdict_word verdict) };
+
+    fn fmt<W: fmt::Write>(&self, f: &mut fmt::Formatter<W>) -> fmt::Result {
+        f.write_str(match self {
+            Verdict::Ignored => "ignored",
+            Verdict::Bad => "bad",
+            Verdict::Good => "good",
+        })
+    }
+}
+
 // One stretch of line bits between two flags.
-#[derive(Drop)]
+#[derive(PartialEq, Eq, Debug, Drop)]
 pub struct Stretch {
     pub verdict: Verdict,
     // how many bits zero deletion left

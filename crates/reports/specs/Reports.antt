@@ -1,10 +1,9 @@
 -- What the commands tell, line by line.
 use Rattle.std.specs.Prelude.{ℕ, ◌+◌, ◌/◌, ◌%◌, Bool, cond, List, [], ◌∷◌, ◌++◌, length, Ok, Err, codes, decimal, Result, ◌==◌}
 use Rattle.fcs.specs.Fcs.{check_sequence, matches, byte_bits}
-use Rattle.framing.specs.declared.outcome.Verdict.{Verdict}
-use Rattle.framing.specs.declared.outcome.Verdict.TheVariants.{Ignored, Bad, Good}
 use Rattle.framing.specs.Insertion.{frame_bits}
 use Rattle.framing.specs.Reading.{Judgement, good_contents, reading}
+use Rattle.framing.specs.Words.{verdict_word}
 use Rattle.faults.specs.declared.Fault.{Fault}
 use Rattle.notation.specs.Bits.{bit_text, bits_read}
 use Rattle.notation.specs.Hex.{hex_text, sequence_text}
@@ -40,11 +39,6 @@ frame_told bytes bits = encode_lines (hex_or_none bytes) (sequence_line (check_s
 -- what `encode` tells
 abbrev pub encode_told : List ℕ → List ℕ
 encode_told bytes = frame_told bytes (frame_bits bytes)
-
-abbrev pub verdict_word : Verdict → List ℕ
-verdict_word Ignored = codes "ignored"
-verdict_word Bad = codes "bad"
-verdict_word Good = codes "good"
 
 abbrev pub stretch_words : (number : ℕ) → (word : List ℕ) → (n : ℕ) → (content : List ℕ) → List ℕ
 stretch_words number word n content =

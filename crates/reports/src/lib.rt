@@ -3,9 +3,10 @@
 
 ghost use Rattle.std.specs.Prelude.{◌≡◌, ℕ, ◌+◌, ◌^◌, ◌<◌, ◌≤◌, List, ◌++◌, map, length, IfOk, string_bytes, OnOk};
 ghost use Rattle.framing.specs.Reading.{as_read, good_content, good_contents};
+ghost use Rattle.framing.specs.Words.{verdict_word};
 ghost use Rattle.fcs.specs.Fcs.{matches, byte_bits};
 ghost use Rattle.faults.specs.Answers.{Answers};
-ghost use Rattle.reports.specs.Reports.{hex_or_none, sequence_line, match_text, check_lines, check_told, encode_lines, frame_told, encode_told, verdict_word, stretch_words, stretch_line, stretch_lines, summary_lines, stretches_told, read_told, text_told};
+ghost use Rattle.reports.specs.Reports.{hex_or_none, sequence_line, match_text, check_lines, check_told, encode_lines, frame_told, encode_told, stretch_words, stretch_line, stretch_lines, summary_lines, stretches_told, read_told, text_told};
 
 use faults::Fault;
 use fcs::{fcs_check_sequence, fcs_matches};
@@ -36,7 +37,7 @@ fn sequence_line(heap: Global, sequence: u16) -> Result<String, AllocError>
 fn matching(bytes: &[u8]) -> bool
     ensures { result ≡ matches (byte_bits bytes.now) }
 {
-    fcs_matches(bytes) == 1
+    fcs_matches(bytes)
 }
 
 // Whether the bytes match: they do if they end with the check sequence of those before it.
