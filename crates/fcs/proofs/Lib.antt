@@ -3,4 +3,5 @@ pub mod Fold
 pub mod Linear
 pub mod Residue
 pub mod Table
+pub mod Steps
 pub mod Spelt

@@ -1,3 +1,3 @@
-pub mod Code
+pub mod Table
 pub mod Fcs
 pub mod Laws

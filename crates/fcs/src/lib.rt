@@ -6,11 +6,11 @@
 // Bits match, their check sequence included, if they leave the register at F0B8 hex.
 #![tactic(auto)]
 
-ghost use Rattle.std.specs.Prelude.{◌≡◌, ◌<◌, map, slice_index};
-ghost use Rattle.std.specs.List.{range_with_len};
+ghost use Rattle.std.specs.Prelude.{◌≡◌, ◌<◌, Bool, List, [], ◌∷◌, map, slice_index};
+ghost use Rattle.std.specs.List.{range_with_len, flat_map};
 ghost use Rattle.fcs.specs.Fcs.{initial, bit_step, register_after, low_bits, byte_bits, table_entry, check_sequence, matches};
 ghost use Rattle.fcs.specs.Laws.{ResidueLaw, BurstLaw};
-ghost use Rattle.fcs.specs.Code.{step_text, byte_text, computed_table};
+ghost use Rattle.fcs.specs.Table.{computed_table};
 
 // The register before any bit.
 pub const FCS_START: u16 = 0xFFFF;
@@ -51,15 +51,9 @@ pub const FCS_TABLE: [u16; 256] = [
 ];
 
 // One bit taken into the check register.
+#[tactic(auto, using(crate::proofs::Steps::step_differs, crate::proofs::Steps::step_equal))]
 pub fn bit_step(register: u16, bit: bool) -> u16
     ensures { result ≡ bit_step register bit }
-{
-    stepped(register, bit)
-}
-
-// The bit step, stated as it is computed.
-fn stepped(register: u16, bit: bool) -> u16
-    ensures { result ≡ step_text register bit }
 {
     let shifted = register >> 1;
     if bit != (register & 1 == 1) {
@@ -70,6 +64,7 @@ fn stepped(register: u16, bit: bool) -> u16
 }
 
 // The table's entry at an index: eight bit steps with bit 0 from the index. The clause `whole` says it of the whole table.
+#[tactic(auto, using(crate::proofs::Table::table_is, crate::proofs::Table::entry_is))]
 pub fn table_entry(index: u8) -> u16
     ensures value { result ≡ table_entry index }
     ensures whole { FCS_TABLE ≡ map table_entry (range_with_len 0 256) }
@@ -77,7 +72,8 @@ pub fn table_entry(index: u8) -> u16
     entry_at(index as usize)
 }
 
-// The table's entry, stated by the numbers that the table must hold.
+// Stated by numbers that the check computes: with `table_entry` in their place the check finds no proof for the table as it stands here.
+#[tactic(auto, unfolding(crate::specs::Table::computed_table))]
 fn entry_at(index: usize) -> u16
     requires { index < 256 }
     ensures value { result ≡ slice_index computed_table index }
@@ -87,52 +83,78 @@ fn entry_at(index: usize) -> u16
 }
 
 // The eight bits of a byte taken into the check register, bit 0 first.
+// The index stays a u16 and the entry comes first: that makes the fastest loop.
+#[tactic(auto, using(crate::proofs::Table::step_by_table))]
 pub fn byte_step(register: u16, byte: u8) -> u16
     ensures { result ≡ register_after register (low_bits 8 byte) }
-{
-    byte_stepped(register, byte)
-}
-
-// The byte step, stated as it is computed. The index stays a u16 and the entry comes first: that makes the fastest loop.
-fn byte_stepped(register: u16, byte: u8) -> u16
-    ensures { result ≡ byte_text register byte }
 {
     let index = (register ^ u16::from(byte)) & 0xFF;
     entry_at(index as usize) ^ (register >> 8)
 }
 
-// The register after every byte of the list in turn, from FFFF hex.
-fn register_after(bytes: &[u8]) -> u16
-    ensures { result ≡ register_after initial (byte_bits bytes.now) }
+// What the check is taken over: a value that stands for bits, in the order in which they are sent.
+pub trait CheckUnit: Copy {
+    ghost bits: { Self → List Bool };
+
+    // The bits taken into the check register.
+    fn step(self, register: u16) -> u16
+        ensures { result ≡ register_after register (bits self) };
+}
+
+// One bit.
+impl CheckUnit for bool {
+    ghost bits = { λ bit. bit ∷ [] };
+
+    #[tactic(auto, unfolding(crate::specs::Fcs::register_after))]
+    fn step(self, register: u16) -> u16 {
+        bit_step(register, self)
+    }
+}
+
+// The eight bits of a byte, bit 0 first.
+impl CheckUnit for u8 {
+    ghost bits = { low_bits 8 };
+
+    fn step(self, register: u16) -> u16 {
+        byte_step(register, self)
+    }
+}
+
+// The register after every unit of the list in turn, from FFFF hex.
+#[tactic(auto, unfolding(crate::specs::Fcs::register_after))]
+pub fn register_after<T: CheckUnit>(units: &[T]) -> u16
+    ensures { result ≡ register_after initial (flat_map T.bits units.now) }
 {
     let mut register = FCS_START;
-    for byte in bytes {
-        register = byte_step(register, *byte);
+    for unit in units {
+        register = unit.step(register);
     }
     register
 }
 
+// Whether the list matches, its check sequence included.
+pub fn matches<T: CheckUnit>(units: &[T]) -> bool
+    ensures { result ≡ matches (flat_map T.bits units.now) }
+{
+    register_after(units) == FCS_RESIDUE
+}
+
 // The check sequence of a byte list. It is sent bit 0 first, so its low byte goes first.
 // The clause `residue`: any bytes followed by their check sequence match.
+#[tactic(auto, using(crate::proofs::Fold::bits_of_bytes))]
 pub fn fcs_check_sequence(bytes: &[u8]) -> u16
     ensures value { result ≡ check_sequence bytes.now }
     ensures residue { ResidueLaw }
-{
-    inverted_register(bytes)
-}
-
-// The register after the list, with every bit inverted.
-fn inverted_register(bytes: &[u8]) -> u16
-    ensures { result ≡ check_sequence bytes.now }
 {
     register_after(bytes) ^ FCS_INVERT
 }
 
 // Whether the byte list matches, its check sequence included.
 // The clause `burst`: errors in at most sixteen neighbouring bits are always seen.
+#[tactic(auto, using(crate::proofs::Fold::bits_of_bytes))]
 pub fn fcs_matches(bytes: &[u8]) -> bool
     ensures value { result ≡ matches (byte_bits bytes.now) }
     ensures burst { BurstLaw }
 {
-    register_after(bytes) == FCS_RESIDUE
+    matches(bytes)
 }

@@ -1,5 +1,5 @@
 use Rattle.fcs.proofs.Residue.{residue_law}
 use Rattle.fcs.proofs.fcs_check_sequence.Goals as goal
 
-pub returns : goal.returns
-returns c = record { value = c.inverted_register.ensures; residue = residue_law }
+pub returns-clause-residue : goal.returns-clause-residue
+returns-clause-residue c = residue_law
