@@ -10,25 +10,25 @@ use std::fmt;
 #[derive(Clone, Copy, PartialEq, Eq, Debug)]
 pub enum Refusal {
     /// The register address is above 3.
-    AddressAboveThree,
+    AddressAboveThree = 1,
     /// The level is above 1: a line level is 0 or 1.
-    LevelAboveOne,
+    LevelAboveOne = 2,
     /// The end is above 1: a pair's ends are 0 for A and 1 for B.
-    EndAboveOne,
+    EndAboveOne = 3,
     /// Queue write while the transmitter is held in reset (TxRS set).
-    TransmitterReset,
+    TransmitterReset = 11,
     /// Queue write while an underrun is latched (TxU set).
-    UnderrunLatched,
+    UnderrunLatched = 12,
     /// Queue write with three entries in the send queue.
-    SendQueueFull,
+    SendQueueFull = 13,
     /// Draw from an empty receive queue.
-    ReceiveQueueEmpty,
+    ReceiveQueueEmpty = 14,
     /// Draw while the receive queue is held after a drawn end.
-    ReceiveQueueHeld,
+    ReceiveQueueHeld = 15,
     /// Put, or send step, with every place of the line taken.
-    LineFull,
+    LineFull = 16,
     /// Take, or receive step, with nothing waiting on the line.
-    LineEmpty,
+    LineEmpty = 17,
 }
 
 impl Refusal {
@@ -37,36 +37,7 @@ impl Refusal {
         ensures value { result ≡ number_of self }
         ensures differ { NumbersDiffer }
     {
-        match self {
-            Refusal::AddressAboveThree => 1,
-            Refusal::LevelAboveOne => 2,
-            Refusal::EndAboveOne => 3,
-            Refusal::TransmitterReset => 11,
-            Refusal::UnderrunLatched => 12,
-            Refusal::SendQueueFull => 13,
-            Refusal::ReceiveQueueEmpty => 14,
-            Refusal::ReceiveQueueHeld => 15,
-            Refusal::LineFull => 16,
-            Refusal::LineEmpty => 17,
-        }
-    }
-}
-
-// What is printed of a refusal.
-fn worded(refusal: Refusal) -> &'static str
-    ensures { result.now ≡ words_of refusal }
-{
-    match refusal {
-        Refusal::AddressAboveThree => "register address above 3",
-        Refusal::LevelAboveOne => "level above 1",
-        Refusal::EndAboveOne => "end above 1",
-        Refusal::TransmitterReset => "transmitter held in reset",
-        Refusal::UnderrunLatched => "underrun latched",
-        Refusal::SendQueueFull => "send queue full",
-        Refusal::ReceiveQueueEmpty => "receive queue empty",
-        Refusal::ReceiveQueueHeld => "receive queue held",
-        Refusal::LineFull => "line full",
-        Refusal::LineEmpty => "line empty",
+        self as u8
     }
 }
 
@@ -74,7 +45,18 @@ impl fmt::Display for Refusal {
     ghost output = { λ refusal. Some (words_of refusal) };
 
     fn fmt<W: fmt::Write>(&self, f: &mut fmt::Formatter<W>) -> fmt::Result {
-        f.pad(worded(*self))
+        f.pad(match self {
+            Refusal::AddressAboveThree => "register address above 3",
+            Refusal::LevelAboveOne => "level above 1",
+            Refusal::EndAboveOne => "end above 1",
+            Refusal::TransmitterReset => "transmitter held in reset",
+            Refusal::UnderrunLatched => "underrun latched",
+            Refusal::SendQueueFull => "send queue full",
+            Refusal::ReceiveQueueEmpty => "receive queue empty",
+            Refusal::ReceiveQueueHeld => "receive queue held",
+            Refusal::LineFull => "line full",
+            Refusal::LineEmpty => "line empty",
+        })
     }
 }
 
