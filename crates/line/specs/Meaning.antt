@@ -1,5 +1,5 @@
 -- What a line is: a queue of levels, 0 or 1, with a fixed number of places.
-use Rattle.std.specs.Prelude.{ℕ, ◌<◌, ◌≤◌, cond, List, [], ◌∷◌, ◌++◌, length, Ok, Err, Result, nat_le, nat_lt, slice_index}
+use Rattle.std.specs.Prelude.{◌≡◌, ℕ, ◌<◌, ◌≤◌, cond, List, [], ◌∷◌, ◌++◌, length, Ok, Err, Result, nat_le, nat_lt, slice_index}
 use Rattle.refusal.specs.declared.Refusal.{Refusal}
 use Rattle.refusal.specs.declared.Refusal.TheVariants.{LevelAboveOne, LineFull, LineEmpty}
 
@@ -18,6 +18,12 @@ pub record Sound (m : Meaning) : Type 0 where
   pub within : length m.waiting ≤ m.places
   pub binary : m.last < 2
   pub levels : Levels m.waiting
+
+-- A line of so many places, as its callers see it: what it means, and that this is sound.
+pub record Queue (places : ℕ) : Type 0 where
+  pub meaning : Meaning
+  pub sound : Sound meaning
+  pub sized : places ≡ meaning.places
 
 -- A new line of a kind that is no layer: empty, with level last taken 1.
 abbrev pub fresh : ℕ → Meaning

@@ -1,11 +1,10 @@
 // A line of one place.
 ghost use Rattle.std.specs.Prelude.{◌≡◌};
-ghost use Rattle.line.specs.Kinds.{jumper_of};
 ghost use Rattle.line.specs.Meaning.{fresh, no_memory};
-ghost use Rattle.line.specs.Soundness.{jumper_sound};
 
 use crate::{Line, admit};
 use refusal::Refusal;
+use std::marker::Model;
 
 /// A jumper: the level that waits, if one does, and the level last taken.
 #[derive(Drop)]
@@ -14,10 +13,21 @@ pub struct Jumper {
     last: bool,
 }
 
+impl Model for Jumper {
+    ghost use Rattle.std.specs.Prelude.{refl};
+    ghost use Rattle.line.specs.Kinds.{jumper_of};
+    ghost use Rattle.line.specs.Meaning.{Queue};
+    ghost use Rattle.line.specs.Soundness.{jumper_sound};
+
+    ghost Value = { Queue 1 };
+
+    ghost view = { λ s. record { meaning = jumper_of s.held s.last; sound = jumper_sound s.held s.last; sized = refl } };
+}
+
 impl Jumper {
     /// Empty, with level last taken 1.
     pub fn new() -> Self
-        ensures { jumper_of result.held result.last ≡ fresh 1 }
+        ensures { result.meaning ≡ fresh 1 }
     {
         Jumper {
             held: None,
@@ -27,9 +37,9 @@ impl Jumper {
 }
 
 impl Line for Jumper {
-    ghost meaning = { λ s. jumper_of s.held s.last };
+    ghost meaning = { λ s. s.meaning };
 
-    ghost sound = { λ s. jumper_sound s.held s.last };
+    ghost sound = { λ s. s.sound };
 
     ghost memory = { λ _. no_memory };
 
@@ -42,21 +52,13 @@ impl Line for Jumper {
     }
 
     fn take(&mut self) -> Result<u8, Refusal> {
-        match self.held {
-            None => Err(Refusal::LineEmpty),
-            Some(high) => {
-                self.held = None;
-                self.last = high;
-                Ok(u8::from(high))
-            }
-        }
+        let high = self.held.take().ok_or(Refusal::LineEmpty)?;
+        self.last = high;
+        Ok(u8::from(high))
     }
 
     fn count(&self) -> usize {
-        match self.held {
-            None => 0,
-            Some(_) => 1,
-        }
+        usize::from(self.held.is_some())
     }
 
     fn places(&self) -> usize {
@@ -68,9 +70,10 @@ impl Line for Jumper {
     }
 
     fn level_at(&self, k: usize) -> Option<u8> {
-        match self.held {
-            Some(high) if k == 0 => Some(u8::from(high)),
-            _ => None,
+        if k == 0 {
+            self.held.map(u8::from)
+        } else {
+            None
         }
     }
 }

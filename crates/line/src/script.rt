@@ -44,6 +44,7 @@ pub fn run<L: Line>(line: &mut L, acts: &[Act], answers: &mut [Result<u8, Refusa
     ensures carries { AlwaysCarries (shown L.meaning L.memory L.written) line.old }
 {
     let most = acts.len().min(answers.len());
+    // Zipped with `answers.iter_mut()` it would need no index, but then no proof knows what the loop wrote.
     for n in 0..most {
         let _ = perform_at(line, acts, answers, n);
     }

@@ -1,11 +1,10 @@
 // A line of 64 places in one machine word.
-ghost use Rattle.std.specs.Prelude.{◌≡◌, ◌+◌, ◌-◌, ◌*◌, ◌/◌, ◌%◌, ◌^◌, ◌<◌, ◌≤◌, Ok, bit_or};
-ghost use Rattle.line.specs.Kinds.{word_of};
-ghost use Rattle.line.specs.Meaning.{appended, fresh, no_memory, take_answer, take_after};
-ghost use Rattle.line.specs.Soundness.{word_sound};
+ghost use Rattle.std.specs.Prelude.{◌≡◌, ◌+◌, ◌*◌, ◌^◌, ◌<◌, ◌≤◌};
+ghost use Rattle.line.specs.Meaning.{fresh, no_memory};
 
 use crate::{Line, admit};
 use refusal::Refusal;
+use std::marker::Model;
 
 const PLACES: usize = 64;
 
@@ -16,22 +15,30 @@ pub struct Word {
     count: usize,
     last: bool,
     ghost within: { count ≤ 64 },
-    // no bit stands above those that wait
-    ghost clear: { levels < 2 ^ count },
 }
 
-// The bits with one level more above `count` of them.
-fn joined(levels: u64, count: usize, level: u8) -> u64
-    requires { count < 64 }
-    ensures { result ≡ bit_or (level * 2 ^ count % 2 ^ 64) levels }
-{
-    (u64::from(level) << count) | levels
+impl Model for Word {
+    ghost use Rattle.std.specs.Prelude.{◌<◌, ◌^◌, refl};
+    ghost use Rattle.line.specs.Kinds.{word_of};
+    ghost use Rattle.line.specs.Meaning.{Queue};
+    ghost use Rattle.line.specs.Soundness.{word_sound};
+
+    ghost Value = { Queue 64 };
+
+    ghost view = { λ s. record {
+      meaning = word_of s.levels s.count s.last;
+      sound = word_sound s.levels s.count s.last s.within;
+      sized = refl;
+    } };
+
+    // no bit stands above those that wait
+    ghost invariant = { λ s. s.levels < 2 ^ s.count };
 }
 
 impl Word {
     /// Empty, with level last taken 1.
     pub fn new() -> Self
-        ensures { word_of result.levels result.count result.last ≡ fresh 64 }
+        ensures { result.meaning ≡ fresh 64 }
     {
         Word {
             levels: 0,
@@ -39,39 +46,21 @@ impl Word {
             last: true,
         }
     }
+}
 
-    // One level more.
-    fn append(&mut self, level: u8)
-        requires { (level ≤ 1) × (self.old.count < 64) }
-        ensures { word_of self.new.levels self.new.count self.new.last ≡ appended (word_of self.old.levels self.old.count self.old.last) level }
-    {
-        *self = Word {
-            levels: joined(self.levels, self.count, level),
-            count: self.count + 1,
-            last: self.last,
-        };
-    }
-
-    // The lowest bit leaves.
-    fn shift(&mut self) -> u8
-        requires { 0 < self.old.count }
-        ensures answer { Ok result ≡ take_answer (word_of self.old.levels self.old.count self.old.last) }
-        ensures after { word_of self.new.levels self.new.count self.new.last ≡ take_after (word_of self.old.levels self.old.count self.old.last) }
-    {
-        let high = self.levels % 2 == 1;
-        *self = Word {
-            levels: self.levels / 2,
-            count: self.count - 1,
-            last: high,
-        };
-        u8::from(high)
-    }
+// The bits with one level more above `count` of them.
+#[tactic(auto, using(crate::proofs::Shifting::merged))]
+fn joined(levels: u64, count: usize, level: u8) -> u64
+    requires { (level ≤ 1) × (count < 64) × (levels < 2 ^ count) }
+    ensures { result ≡ level * 2 ^ count + levels }
+{
+    levels | (u64::from(level) << count)
 }
 
 impl Line for Word {
-    ghost meaning = { λ s. word_of s.levels s.count s.last };
+    ghost meaning = { λ s. s.meaning };
 
-    ghost sound = { λ s. word_sound s.levels s.count s.last s.within };
+    ghost sound = { λ s. s.sound };
 
     ghost memory = { λ _. no_memory };
 
@@ -79,7 +68,8 @@ impl Line for Word {
 
     fn put(&mut self, level: u8) -> Result<u8, Refusal> {
         let answer = admit(level, self.count(), self.places())?;
-        self.append(level);
+        self.levels = joined(self.levels, self.count, level);
+        self.count += 1;
         Ok(answer)
     }
 
@@ -87,7 +77,10 @@ impl Line for Word {
         if self.count == 0 {
             return Err(Refusal::LineEmpty);
         }
-        Ok(self.shift())
+        self.last = self.levels % 2 == 1;
+        self.levels /= 2;
+        self.count -= 1;
+        Ok(u8::from(self.last))
     }
 
     fn count(&self) -> usize {

@@ -3,12 +3,12 @@
 
 ghost use Rattle.std.specs.Prelude.{◌≡◌};
 ghost use Rattle.line.specs.Meaning.{fresh, no_memory};
-ghost use Rattle.sample_line.specs.TwoPlaces.{two_places, two_places_sound};
 
 use line::{Line, admit};
 use refusal::Refusal;
+use std::marker::Model;
 
-// The levels that wait, oldest first, each true for 1.
+// The levels that wait, oldest first, each true for 1. Two `Option`s would have a fourth form, with a second level and no first.
 #[derive(Clone, Copy)]
 enum Held {
     Nothing,
@@ -23,10 +23,24 @@ pub struct TwoPlaces {
     last: bool,
 }
 
+impl Model for TwoPlaces {
+    ghost use Rattle.std.specs.Prelude.{refl};
+    ghost use Rattle.line.specs.Meaning.{Queue};
+    ghost use Rattle.sample_line.specs.TwoPlaces.{two_places, two_places_sound};
+
+    ghost Value = { Queue 2 };
+
+    ghost view = { λ s. record {
+      meaning = two_places s.held s.last;
+      sound = two_places_sound s.held s.last;
+      sized = refl;
+    } };
+}
+
 impl TwoPlaces {
     /// Empty, with level last taken 1.
     pub fn new() -> Self
-        ensures { two_places result.held result.last ≡ fresh 2 }
+        ensures { result.meaning ≡ fresh 2 }
     {
         TwoPlaces {
             held: Held::Nothing,
@@ -36,9 +50,9 @@ impl TwoPlaces {
 }
 
 impl Line for TwoPlaces {
-    ghost meaning = { λ s. two_places s.held s.last };
+    ghost meaning = { λ s. s.meaning };
 
-    ghost sound = { λ s. two_places_sound s.held s.last };
+    ghost sound = { λ s. s.sound };
 
     ghost memory = { λ _. no_memory };
 
