@@ -4,9 +4,10 @@
 ghost use Rattle.std.specs.Prelude.{◌≡◌, ◌/◌, ◌%◌, ◌<◌, IfOk, Some, string_bytes};
 ghost use Rattle.faults.specs.declared.Fault.TheVariants.{Memory};
 ghost use Rattle.faults.specs.Digits.{digit_glyph};
-ghost use Rattle.faults.specs.Messages.{visible, named, message, separator, complaint};
+ghost use Rattle.faults.specs.Messages.{named, message, separator, complaint};
 
 use std::alloc::{AllocError, AllocFailed, Global};
+use std::error::Error;
 use std::fmt;
 
 // Words, characters, lines and columns are counted from 1. Hexadecimal words are counted after the command's name.
@@ -56,11 +57,8 @@ fn digit_character(digit: u8) -> char
     ensures glyph { result ≡ digit_glyph digit }
     ensures ascii { result < 128 }
 {
-    if digit < 10 {
-        char::from(48 + digit)
-    } else {
-        char::from(55 + digit)
-    }
+    let lower = char::from_digit(u32::from(digit), 16).unwrap();
+    lower.to_ascii_uppercase()
 }
 
 // The two upper-case hexadecimal digits of a byte, the high one first.
@@ -69,13 +67,6 @@ pub fn hex_digits(byte: u8) -> (char, char)
     ensures ascii { (result.0 < 128) × (result.1 < 128) }
 {
     (digit_character(byte / 16), digit_character(byte % 16))
-}
-
-// Whether a byte is a visible ASCII character.
-fn is_visible(byte: u8) -> bool
-    ensures { result ≡ visible byte }
-{
-    byte > 32 && byte < 127
 }
 
 // A byte as a message names it: a visible ASCII character in quotes, or two hexadecimal digits.
@@ -87,12 +78,11 @@ impl fmt::Display for Named {
 
     fn fmt<W: fmt::Write>(&self, f: &mut fmt::Formatter<W>) -> fmt::Result {
         let byte = self.0;
-        if is_visible(byte) {
+        if byte.is_ascii_graphic() {
             let c = char::from(byte);
             write!(f, "'{c}'")
         } else {
-            let (high, low) = hex_digits(byte);
-            write!(f, "byte {high}{low}")
+            write!(f, "byte {byte:02X}")
         }
     }
 }
@@ -130,16 +120,20 @@ impl fmt::Display for Fault {
     }
 }
 
-// What stands between the thing complained of and the message: a place in it follows, or not.
-fn separator(fault: Fault) -> &'static str
-    ensures { result.now ≡ separator fault }
-{
-    match fault {
-        Fault::EmptyWord { .. }
-        | Fault::NoHexDigit { .. }
-        | Fault::OddDigits { .. }
-        | Fault::NoBit { .. } => ", ",
-        Fault::UnknownCommand | Fault::NoFile | Fault::SecondFile | Fault::Memory => ": ",
+impl Error for Fault {}
+
+impl Fault {
+    // What stands between the thing complained of and the message: a place in it follows, or not.
+    fn separator(self) -> &'static str
+        ensures { result.now ≡ separator self }
+    {
+        match self {
+            Fault::EmptyWord { .. }
+            | Fault::NoHexDigit { .. }
+            | Fault::OddDigits { .. }
+            | Fault::NoBit { .. } => ", ",
+            Fault::UnknownCommand | Fault::NoFile | Fault::SecondFile | Fault::Memory => ": ",
+        }
     }
 }
 
@@ -147,6 +141,6 @@ fn separator(fault: Fault) -> &'static str
 pub fn complaint(heap: Global, about: &str, fault: Fault) -> Result<String, AllocError>
     ensures { IfOk result (λ s. string_bytes s ≡ complaint about.now fault) }
 {
-    let between = separator(fault);
+    let between = fault.separator();
     format!(in heap; "bench: {about}{between}{fault}")
 }
