@@ -1,15 +1,14 @@
 -- What is rendered is read back. Assumes nothing.
-use Rattle.std.proofs.Common.{◌≡◌, ℕ, suc, ◌+◌, ◌*◌, ◌/◌, ◌%◌, ◌<◌, Bool, true, false, cond, eqb, List, [], ◌∷◌, ◌++◌, map, length, Some, None, Ok, Option, sym, refl, ap, ◌∙◌, append_assoc, append-nil, arith}
+use Rattle.std.proofs.Common.{◌≡◌, ℕ, ◌+◌, ◌*◌, ◌/◌, ◌%◌, ◌<◌, Bool, true, false, eqb, List, [], ◌∷◌, ◌++◌, map, Some, None, Ok, Option, sym, refl, ap, ◌∙◌, append_assoc, append-nil, arith}
 use Rattle.std.specs.List.{flat_map, AllByRecursion}
 use Rattle.std.proofs.lemmas.List.FromFn.{get_or-map-range_with_len}
-use Rattle.std.proofs.lemmas.List.{flat_map_more}
-use Rattle.std.proofs.lemmas.Bool.{true≢false}
 use Rattle.std.proofs.lemmas.Bool.Decides.{nat_tests}
 use Rattle.notation.specs.declared.bits.Place.{Place}
 use Rattle.faults.specs.Digits.{digit_glyph, hex_pair}
 use Rattle.notation.specs.Bits as bits
-use Rattle.notation.specs.Hex.{digit_value, with_digit, digit_read, character_read, ended, hex_text, with_word, cut_at_blanks, word_read, words_read, ReadBack}
+use Rattle.notation.specs.Hex.{digit_value, with_digit, digit_read, character_read, ended, hex_text, cut_at_blanks, word_read, words_read, ReadBack}
 use Rattle.notation.specs.Reading.{in_turn}
+use Rattle.notation.proofs.Pairs.{after_blank}
 use Rattle.notation.proofs.Turns.{turn_one}
 
 bits_after : (bs : List Bool) (place : ℕ) (at : Place) (done : List Bool) → bits.bits_of (bits.characters_taken place (at, done) (bits.bit_text bs)) ≡ Ok (done ++ bs)
@@ -21,26 +20,6 @@ pub bits_back : bits.ReadBack
 bits_back bs = bits_after bs 0 _ []
 
 -- ---- hexadecimal
-
-abbrev after_blank : ℕ → List ℕ
-after_blank byte = 32 ∷ hex_pair byte
-
-not_zero : (n : ℕ) → eqb (suc n) 0 ≡ false
-not_zero n = grind (arith, nat_tests)
-
--- a byte more at the end
-pub hex_text_push : (bytes : List ℕ) (byte : ℕ) → hex_text (bytes ++ byte ∷ []) ≡ with_word (hex_text bytes) (hex_pair byte)
-hex_text_push [] byte = append-nil (hex_pair byte)
-hex_text_push (b ∷ bytes) byte =
-    let text = hex_text (b ∷ bytes) in
-    sym (flat_map_more after_blank (hex_pair b) bytes byte) ∙ sym (ap (λ empty. cond empty (hex_pair byte) (text ++ 32 ∷ hex_pair byte)) (not_zero _))
-
-pub word_first : (text word : List ℕ) → eqb (length text) 0 ≡ true → text ++ word ≡ with_word text word
-word_first [] word e = refl
-word_first (c ∷ text) word e = absurd (true≢false (sym e ∙ not_zero _))
-
-pub word_after : (text word : List ℕ) → eqb (length text) 0 ≡ false → (text ++ 32 ∷ []) ++ word ≡ with_word text word
-word_after text word e = append_assoc text (32 ∷ []) word ∙ sym (ap (λ empty. cond empty word (text ++ 32 ∷ word)) e)
 
 digit_back : (digit : ℕ) → digit < 16 → digit_value (digit_glyph digit) ≡ Some digit
 digit_back digit h =

@@ -1,5 +1,5 @@
 -- Bits as text of 0 and 1.
-use Rattle.std.specs.Prelude.{◌≡◌, ℕ, ◌+◌, ◌≤◌, Bool, true, false, cond, ◌||◌, List, [], ◌∷◌, ◌++◌, map, Ok, Err, Result, ◌==◌}
+use Rattle.std.specs.Prelude.{◌≡◌, ℕ, ◌+◌, Bool, true, false, cond, ◌||◌, List, [], ◌∷◌, ◌++◌, map, Ok, Err, Result, ◌==◌}
 use Rattle.notation.specs.declared.bits.Place.{Place}
 use Rattle.faults.specs.declared.Fault.{Fault}
 use Rattle.faults.specs.declared.Fault.TheVariants.{NoBit}
@@ -47,7 +47,3 @@ bit_text bits = map bit_glyph bits
 -- the text of bits is read as these bits
 abbrev pub ReadBack : Type 0
 ReadBack = (bits : List Bool) → bits_read (bit_text bits) ≡ Ok bits
-
--- a step of at most one
-abbrev pub Near : Place → Place → Type 0
-Near at next = (next.lines ≤ at.lines + 1) × (next.columns ≤ at.columns + 1)

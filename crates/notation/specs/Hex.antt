@@ -32,12 +32,8 @@ abbrev pub character_read : (word : ℕ) → (place : ℕ) → Sofar → ℕ →
 character_read word place s c = digit_read (Err (NoHexDigit word (place + 1) c)) s (digit_value c)
 
 -- after the last character no digit may wait
-abbrev pub none_waits : (word : ℕ) → Option ℕ → Result (Unit {0}) Fault
-none_waits word None = Ok tt
-none_waits word (Some high) = Err (OddDigits word)
-
 abbrev pub word_ended : (word : ℕ) → Sofar → Result (List ℕ) Fault
-word_ended word s = elim (none_waits word s.0) [ Ok u ↦ Ok s.1 | Err fault ↦ Err fault ]
+word_ended word s = elim s.0 [ None ↦ Ok s.1 | Some high ↦ Err (OddDigits word) ]
 
 -- a word by what its characters gave
 abbrev pub ended : (word : ℕ) → Result Sofar Fault → Result (List ℕ) Fault
@@ -54,19 +50,10 @@ word_read place bytes cs = cond (length cs == 0) (Err (EmptyWord (place + 1))) (
 abbrev pub words_read : List (List ℕ) → Result (List ℕ) Fault
 words_read words = in_turn word_read 0 [] words
 
--- a digit, where there is one, is below sixteen
-abbrev pub Small : Option ℕ → Type 0
-Small None = Unit {0}
-Small (Some digit) = digit < 16
-
 -- bytes as pairs of digits with a blank between two
 abbrev pub hex_text : List ℕ → List ℕ
 hex_text [] = []
 hex_text (byte ∷ bytes) = hex_pair byte ++ flat_map (λ b. 32 ∷ hex_pair b) bytes
-
--- a word more at the end of a text
-abbrev pub with_word : List ℕ → List ℕ → List ℕ
-with_word text word = cond (length text == 0) word (text ++ 32 ∷ word)
 
 -- sixteen bits as four digits
 abbrev pub sequence_text : ℕ → List ℕ
