@@ -1,9 +1,7 @@
 -- Words of a command line, by how many there are. Assumes nothing.
-use Rattle.std.proofs.Common.{◌≡◌, ◌-◌, ◌≤◌, List, [], ◌∷◌, map, length, get_or, take, drop, Err, string_bytes, String, sym, refl, ap, ◌∙◌, ap₂, arith}
+use Rattle.std.proofs.Common.{◌≡◌, ◌-◌, ◌≤◌, List, [], ◌∷◌, map, length, get_or, take, drop, string_bytes, String, sym, refl, ◌∙◌, ap₂, arith}
 use Rattle.std.proofs.lemmas.List.{take_rest}
 use Rattle.std.specs.declared.alloc.Global.{Global}
-use Rattle.faults.specs.declared.Fault.TheVariants.{SecondFile}
-use Rattle.commands.specs.Commands.{source_meant}
 
 abbrev Words : Type 0
 Words = List (String Global)
@@ -16,13 +14,3 @@ pub first_word : (ws : Words) (w : String Global) (rest : Words) → 1 ≤ lengt
     → map string_bytes ws ≡ string_bytes w ∷ map string_bytes rest
 first_word [] w rest h is e = absurd (omega arith)
 first_word (v ∷ ws) w rest h is e = ap₂ (λ x y. string_bytes x ∷ map string_bytes y) (sym is) (sym (e ∙ take_rest (v ∷ ws) 1))
-
-pub one_word : (ws : Words) (w : String Global) → length ws ≡ 1 → w ≡ get_or ws 0 w → map string_bytes ws ≡ string_bytes w ∷ []
-one_word [] w h is = absurd (omega arith)
-one_word (v ∷ []) w h is = ap (λ x. string_bytes x ∷ []) (sym is)
-one_word (v ∷ u ∷ ws) w h is = absurd (omega arith)
-
-pub more_words : (ws : Words) → 2 ≤ length ws → source_meant (map string_bytes ws) ≡ Err SecondFile
-more_words [] h = absurd (omega arith)
-more_words (v ∷ []) h = absurd (omega arith)
-more_words (v ∷ u ∷ ws) h = refl

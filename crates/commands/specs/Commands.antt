@@ -1,10 +1,8 @@
 -- What a command line asks for.
-use Rattle.std.specs.Prelude.{ℕ, cond, ◌||◌, List, [], ◌∷◌, Ok, Err, vec_items, string_bytes, codes, Result}
+use Rattle.std.specs.Prelude.{ℕ, Bool, cond, ◌||◌, List, [], ◌∷◌, Ok, Err, vec_items, string_bytes, codes, Result}
 use Rattle.std.specs.Str.{bytes_eq}
 use Rattle.commands.specs.declared.Command.{Command}
 use Rattle.commands.specs.declared.Command.TheVariants as command
-use Rattle.commands.specs.declared.Name.{Name}
-use Rattle.commands.specs.declared.Name.TheVariants as name
 use Rattle.commands.specs.declared.Source.{Source}
 use Rattle.commands.specs.declared.Source.TheVariants.{StandardInput, File}
 use Rattle.faults.specs.declared.Fault.{Fault}
@@ -33,12 +31,6 @@ command_shown (command.Check bytes) = check (vec_items bytes)
 command_shown (command.Encode bytes) = encode (vec_items bytes)
 command_shown (command.Read source) = read (source_shown source)
 
-abbrev pub word_name : List ℕ → Name
-word_name word =
-    cond (bytes_eq word (codes "help") || (bytes_eq word (codes "--help") || bytes_eq word (codes "-h"))) name.Help
-    (cond (bytes_eq word (codes "check")) name.Check
-    (cond (bytes_eq word (codes "encode")) name.Encode (cond (bytes_eq word (codes "read")) name.Read name.Unknown)))
-
 -- one word after `read`: a file's name, or - for standard input
 abbrev pub source_meant : List (List ℕ) → Result From Fault
 source_meant [] = Err NoFile
@@ -48,15 +40,18 @@ source_meant (path ∷ word ∷ words) = Err SecondFile
 abbrev after : {X Y : Type 0} → (X → Y) → Result X Fault → Result Y Fault
 after f r = elim r [ Ok x ↦ Ok (f x) | Err fault ↦ Err fault ]
 
--- the words after the command's name
-abbrev pub named_meant : Name → List (List ℕ) → Result Asked Fault
-named_meant name.Help words = Ok help
-named_meant name.Check words = after check (words_read words)
-named_meant name.Encode words = after encode (words_read words)
-named_meant name.Read words = after read (source_meant words)
-named_meant name.Unknown words = Err UnknownCommand
+abbrev is_help : List ℕ → Bool
+is_help word = bytes_eq word (codes "help") || (bytes_eq word (codes "--help") || bytes_eq word (codes "-h"))
+
+-- a command's name, and the words after it
+abbrev pub named_meant : List ℕ → List (List ℕ) → Result Asked Fault
+named_meant name words =
+    cond (is_help name) (Ok help)
+    (cond (bytes_eq name (codes "check")) (after check (words_read words))
+    (cond (bytes_eq name (codes "encode")) (after encode (words_read words))
+    (cond (bytes_eq name (codes "read")) (after read (source_meant words)) (Err UnknownCommand))))
 
 -- all words after the program's name
 abbrev pub command_meant : List (List ℕ) → Result Asked Fault
 command_meant [] = Ok help
-command_meant (word ∷ words) = named_meant (word_name word) words
+command_meant (name ∷ words) = named_meant name words

@@ -2,7 +2,7 @@
 #![tactic(auto)]
 
 ghost use Rattle.std.specs.Prelude.{◌≡◌, map, string_bytes};
-ghost use Rattle.commands.specs.Commands.{word_name, source_shown, source_meant, command_shown, named_meant, command_meant};
+ghost use Rattle.commands.specs.Commands.{source_shown, source_meant, command_shown, command_meant};
 ghost use Rattle.faults.specs.Answers.{Answers};
 
 use faults::Fault;
@@ -24,52 +24,16 @@ pub enum Command {
     Read(Source),
 }
 
-// What the first word names.
-#[derive(Clone, Copy)]
-enum Name {
-    Help,
-    Check,
-    Encode,
-    Read,
-    Unknown,
-}
-
-fn word_name(word: &str) -> Name
-    ensures { result ≡ word_name word.now }
-{
-    match word {
-        "help" | "--help" | "-h" => Name::Help,
-        "check" => Name::Check,
-        "encode" => Name::Encode,
-        "read" => Name::Read,
-        _ => Name::Unknown,
-    }
-}
-
+// Where the word after `read` says that the bit text is: `-` is standard input.
+// It parses a command's words, as `parse_hex` does: that is no conversion of a value, and so no `TryFrom`.
 fn parse_source(words: &[String]) -> Result<Source, Fault>
     ensures { Answers source_shown result (source_meant (map string_bytes words.now)) }
 {
     match words {
         [] => Err(Fault::NoFile),
-        [path] => {
-            if path.as_str() == "-" {
-                return Ok(Source::StandardInput);
-            }
-            Ok(Source::File(path.clone()?))
-        }
+        [path] if path.as_str() == "-" => Ok(Source::StandardInput),
+        [path] => Ok(Source::File(path.clone()?)),
         _ => Err(Fault::SecondFile),
-    }
-}
-
-fn parse_named(heap: Global, name: Name, words: &[String]) -> Result<Command, Fault>
-    ensures { Answers command_shown result (named_meant name (map string_bytes words.now)) }
-{
-    match name {
-        Name::Help => Ok(Command::Help),
-        Name::Check => Ok(Command::Check(parse_hex(heap, words)?)),
-        Name::Encode => Ok(Command::Encode(parse_hex(heap, words)?)),
-        Name::Read => Ok(Command::Read(parse_source(words)?)),
-        Name::Unknown => Err(Fault::UnknownCommand),
     }
 }
 
@@ -77,8 +41,14 @@ fn parse_named(heap: Global, name: Name, words: &[String]) -> Result<Command, Fa
 pub fn parse_command(heap: Global, words: &[String]) -> Result<Command, Fault>
     ensures { Answers command_shown result (command_meant (map string_bytes words.now)) }
 {
-    match words {
-        [] => Ok(Command::Help),
-        [name, rest @ ..] => parse_named(heap, word_name(name.as_str()), rest),
+    let [name, rest @ ..] = words else {
+        return Ok(Command::Help);
+    };
+    match name.as_str() {
+        "help" | "--help" | "-h" => Ok(Command::Help),
+        "check" => parse_hex(heap, rest).map(Command::Check),
+        "encode" => parse_hex(heap, rest).map(Command::Encode),
+        "read" => parse_source(rest).map(Command::Read),
+        _ => Err(Fault::UnknownCommand),
     }
 }
