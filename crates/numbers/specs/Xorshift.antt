@@ -1,5 +1,5 @@
 -- The sequence of the generator.
-use Rattle.std.specs.Prelude.{cond, ℕ, ◌*◌, ◌/◌, ◌%◌, ◌^◌, eqb}
+use Rattle.std.specs.Prelude.{ℕ, ◌*◌, ◌/◌, ◌%◌, ◌^◌, ◌==◌, if◌then◌else◌}
 use Rattle.std.specs.Int.Bits.{bit_xor}
 
 -- a number and itself shifted up in 64 bits, or down, exclusive-ored
@@ -14,4 +14,4 @@ stepped x = mixed_up 17 (mixed_down 7 (mixed_up 13 x))
 
 -- from the upper 48 bits, since the lower ones are the weaker
 abbrev pub drawn_below : ℕ → ℕ → ℕ
-drawn_below x limit = cond (eqb limit 0) 0 (x / 2 ^ 16 % limit)
+drawn_below x limit = if limit == 0 then 0 else x / 2 ^ 16 % limit
