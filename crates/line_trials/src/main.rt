@@ -11,13 +11,9 @@ mod trial;
 const SEED: u64 = 0x9E37_79B9_7F4A_7C15;
 
 fn main(rt: HostRuntime) -> anyhow::Result<()> {
-    run(&rt)
-}
-
-fn run(rt: &HostRuntime) -> anyhow::Result<()> {
-    piles::kinds(rt)?;
-    piles::layers(rt)?;
-    piles::deep(rt)?;
-    piles::filled(rt)?;
-    bytes::all(rt)
+    piles::kinds(&rt)?;
+    piles::layers(&rt)?;
+    piles::deep(&rt)?;
+    piles::filled(&rt)?;
+    bytes::all(&rt)
 }

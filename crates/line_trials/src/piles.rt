@@ -10,12 +10,11 @@ use sample_line::TwoPlaces;
 fn fresh<L: Line + Drop>(
     rt: &HostRuntime,
     name: &str,
-    mut line: L,
+    line: L,
     places: usize,
     last: u8,
 ) -> anyhow::Result<()> {
-    let plain = Plain::holding(rt.alloc(), places, last, &[])?;
-    trial::run(rt, name, &mut line, plain)
+    trial::run(rt, name, line, Plain::empty(rt.alloc(), places, last))
 }
 
 pub(crate) fn kinds(rt: &HostRuntime) -> anyhow::Result<()> {
@@ -34,22 +33,12 @@ pub(crate) fn layers(rt: &HostRuntime) -> anyhow::Result<()> {
     let mut bytes = [0u8; 16];
     fresh(rt, "nrzi jumper", Nrzi::new(Jumper::new()), 1, 1)?;
     fresh(rt, "nrzi word", Nrzi::new(Word::new()), 64, 1)?;
-    fresh(
-        rt,
-        "nrzi cable 16",
-        Nrzi::new(Cable::new(&mut bytes)),
-        16,
-        1,
-    )?;
+    let pile = Nrzi::new(Cable::new(&mut bytes));
+    fresh(rt, "nrzi cable 16", pile, 16, 1)?;
     fresh(rt, "crossed jumper", Crossed::new(Jumper::new()), 1, 0)?;
     fresh(rt, "crossed word", Crossed::new(Word::new()), 64, 0)?;
-    fresh(
-        rt,
-        "crossed cable 16",
-        Crossed::new(Cable::new(&mut bytes)),
-        16,
-        0,
-    )
+    let pile = Crossed::new(Cable::new(&mut bytes));
+    fresh(rt, "crossed cable 16", pile, 16, 0)
 }
 
 // Two layers and three.
@@ -81,31 +70,17 @@ fn holding() -> Word {
     word
 }
 
-// A line that holds levels before a layer is put over it.
-fn over(
-    rt: &HostRuntime,
-    name: &str,
-    line: &mut impl Line,
-    last: u8,
-    levels: &[u8],
-) -> anyhow::Result<()> {
-    let plain = Plain::holding(rt.alloc(), 64, last, levels)?;
-    trial::run(rt, name, line, plain)
-}
-
+// Lines that hold levels before a layer is put over them.
 // Under NRZI each of 1, 0, 0, 1 is compared with the one before it, the first with 0; its own level last taken is 1 as it is made.
 pub(crate) fn filled(rt: &HostRuntime) -> anyhow::Result<()> {
-    over(rt, "word with 1001", &mut holding(), 0, &[1, 0, 0, 1])?;
-    let mut pile = Nrzi::new(holding());
-    over(rt, "nrzi word with 1001", &mut pile, 1, &[0, 0, 1, 0])?;
-    let mut pile = Crossed::new(holding());
-    over(rt, "crossed word with 1001", &mut pile, 1, &[0, 1, 1, 0])?;
-    let mut pile = Nrzi::new(Crossed::new(holding()));
-    over(
-        rt,
-        "nrzi crossed word with 1001",
-        &mut pile,
-        1,
-        &[0, 0, 1, 0],
-    )
+    let heap = rt.alloc();
+    let plain = Plain::holding(heap, 64, 0, &[1, 0, 0, 1])?;
+    trial::run(rt, "word with 1001", holding(), plain)?;
+    let plain = Plain::holding(heap, 64, 1, &[0, 0, 1, 0])?;
+    trial::run(rt, "nrzi word with 1001", Nrzi::new(holding()), plain)?;
+    let plain = Plain::holding(heap, 64, 1, &[0, 1, 1, 0])?;
+    trial::run(rt, "crossed word with 1001", Crossed::new(holding()), plain)?;
+    let plain = Plain::holding(heap, 64, 1, &[0, 0, 1, 0])?;
+    let pile = Nrzi::new(Crossed::new(holding()));
+    trial::run(rt, "nrzi crossed word with 1001", pile, plain)
 }

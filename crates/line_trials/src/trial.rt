@@ -1,5 +1,5 @@
 // One line beside the plain list.
-use crate::plain::Plain;
+use crate::plain::{Plain, Refused};
 use line::{Act, Line};
 use numbers::Numbers;
 use refusal::Refusal;
@@ -7,7 +7,7 @@ use refusal::Refusal;
 const TURNS: u32 = 30_000;
 
 // What came in one trial.
-#[derive(Drop)]
+#[derive(Default, Drop)]
 struct Tally {
     puts: u32,
     takes: u32,
@@ -19,28 +19,14 @@ struct Tally {
 }
 
 impl Tally {
-    fn new() -> Self {
-        Tally {
-            puts: 0,
-            takes: 0,
-            bad_levels: 0,
-            full: 0,
-            empty: 0,
-            questions: 0,
-            differences: 0,
-        }
-    }
-
     // Counts an answer to an act by what the plain list answered, and whether the line answered the same.
-    fn act(&mut self, act: Act, theirs: Result<u8, u8>, same: bool) {
-        let counter = match theirs {
-            Err(2) => &mut self.bad_levels,
-            Err(16) => &mut self.full,
-            Err(_) => &mut self.empty,
-            Ok(_) => match act {
-                Act::Put(_) => &mut self.puts,
-                Act::Take => &mut self.takes,
-            },
+    fn act(&mut self, act: Act, theirs: Result<u8, Refused>, same: bool) {
+        let counter = match (theirs, act) {
+            (Err(Refused::NoLevel), _) => &mut self.bad_levels,
+            (Err(Refused::Full), _) => &mut self.full,
+            (Err(Refused::Empty), _) => &mut self.empty,
+            (Ok(_), Act::Put(_)) => &mut self.puts,
+            (Ok(_), Act::Take) => &mut self.takes,
         };
         *counter = counter.saturating_add(1);
         self.differ(same);
@@ -52,85 +38,101 @@ impl Tally {
     }
 
     fn differ(&mut self, same: bool) {
-        if !same {
-            self.differences = self.differences.saturating_add(1);
+        self.differences = self.differences.saturating_add(u32::from(!same));
+    }
+}
+
+// A line, the plain list that it is compared with, and what came so far.
+#[derive(Drop)]
+struct Trial<L> {
+    line: L,
+    plain: Plain,
+    tally: Tally,
+    numbers: Numbers,
+    filling: bool,
+}
+
+impl<L: Line> Trial<L> {
+    // The next act. While the list fills, three of four are puts, and while it empties, three of four are takes; now and then a put has
+    // no level.
+    fn next_act(&mut self) -> Act {
+        if (self.numbers.below(4) == 0) == self.filling {
+            Act::Take
+        } else if self.numbers.below(16) == 0 {
+            Act::Put(self.numbers.below(256) as u8)
+        } else {
+            Act::Put(self.numbers.below(2) as u8)
         }
     }
-}
 
-fn same_answer(ours: Result<u8, Refusal>, theirs: Result<u8, u8>) -> bool {
-    match (ours, theirs) {
-        (Ok(a), Ok(b)) => a == b,
-        (Err(a), Err(b)) => a.number() == b,
-        _ => false,
+    // One act on both.
+    fn act(&mut self) -> anyhow::Result<()> {
+        let act = self.next_act();
+        let theirs = match act {
+            Act::Take => self.plain.take(),
+            Act::Put(level) => self.plain.put(level)?,
+        };
+        let ours = line::perform(&mut self.line, act).map_err(Refusal::number);
+        let same = ours == theirs.map_err(|refused| refused as u8);
+        self.tally.act(act, theirs, same);
+        Ok(())
+    }
+
+    // A place to look at: most often near the levels that wait, at times far off.
+    fn somewhere(&mut self) -> usize {
+        match self.numbers.below(32) {
+            0 => usize::MAX,
+            1 => self.plain.places,
+            _ => self
+                .numbers
+                .below((self.plain.waiting.len() as u64).saturating_add(2)) as usize,
+        }
+    }
+
+    fn ask(&mut self) {
+        let plain = &self.plain;
+        self.tally
+            .question(self.line.count() == plain.waiting.len());
+        self.tally.question(self.line.places() == plain.places);
+        self.tally.question(self.line.last_taken() == plain.last);
+        let k = self.somewhere();
+        self.tally.question(self.line.level_at(k) == self.plain.waiting.get(k).copied());
+    }
+
+    fn turn(&mut self) -> anyhow::Result<()> {
+        self.act()?;
+        self.ask();
+        if self.plain.waiting.is_empty() {
+            self.filling = true;
+        } else if self.plain.is_full() {
+            self.filling = false;
+        }
+        Ok(())
     }
 }
 
-// One act on both. While the list fills, three of four are puts, and while it empties, three of four are takes; now and then a
-// put has no level.
-fn act_on<L: Line>(
-    line: &mut L,
-    plain: &mut Plain,
-    tally: &mut Tally,
-    numbers: &mut Numbers,
-    filling: bool,
-) -> anyhow::Result<()> {
-    let act = if (numbers.below(4) == 0) == filling {
-        Act::Take
-    } else if numbers.below(16) == 0 {
-        Act::Put((numbers.below(256) & 0xff) as u8)
-    } else {
-        Act::Put((numbers.below(2) & 1) as u8)
-    };
-    let theirs = match act {
-        Act::Take => plain.take(),
-        Act::Put(level) => plain.put(level)?,
-    };
-    let ours = line::perform(line, act);
-    tally.act(act, theirs, same_answer(ours, theirs));
-    Ok(())
-}
-
-// A place to look at: most often near the levels that wait, at times far off.
-fn somewhere(plain: &Plain, numbers: &mut Numbers) -> usize {
-    match numbers.below(32) {
-        0 => usize::MAX,
-        1 => plain.places,
-        _ => numbers.below((plain.waiting.len() as u64).saturating_add(2)) as usize,
-    }
-}
-
-fn ask<L: Line>(line: &L, plain: &Plain, tally: &mut Tally, numbers: &mut Numbers) {
-    tally.question(line.count() == plain.waiting.len());
-    tally.question(line.places() == plain.places);
-    tally.question(line.last_taken() == plain.last);
-    let k = somewhere(plain, numbers);
-    tally.question(line.level_at(k) == plain.waiting.get(k).copied());
-}
-
-// Random acts and questions; it prints what came of them.
-pub(crate) fn run<L: Line>(
+// Random acts and questions on a line that holds what the plain list holds; it prints what came of them.
+pub(crate) fn run<L: Line + Drop>(
     rt: &HostRuntime,
     name: &str,
-    line: &mut L,
-    mut plain: Plain,
+    line: L,
+    plain: Plain,
 ) -> anyhow::Result<()> {
-    let mut numbers = Numbers::from_seed(crate::SEED);
-    let mut tally = Tally::new();
-    let mut filling = true;
-    ask(line, &plain, &mut tally, &mut numbers);
+    let mut trial = Trial {
+        line,
+        plain,
+        tally: Tally::default(),
+        numbers: Numbers::from_seed(crate::SEED),
+        filling: true,
+    };
+    trial.ask();
     for _ in 0..TURNS {
-        act_on(line, &mut plain, &mut tally, &mut numbers, filling)?;
-        ask(line, &plain, &mut tally, &mut numbers);
-        if plain.waiting.len() == 0 {
-            filling = true;
-        } else if plain.waiting.len() == plain.places {
-            filling = false;
-        }
+        trial.turn()?;
     }
+    let tally = &trial.tally;
     println!(rt;
         "{name}: places {}, puts {}, takes {}, refusals 2: {}, 16: {}, 17: {}, questions {}, differences {}",
-        plain.places,
+        trial.plain.places,
         tally.puts,
         tally.takes,
         tally.bad_levels,
