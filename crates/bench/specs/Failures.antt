@@ -1,7 +1,14 @@
 -- What a failure says on standard error.
-use Rattle.std.specs.Prelude.{◌≡◌, ℕ, List, [], ◌∷◌, string_bytes, codes}
+use Rattle.std.specs.Prelude.{◌≡◌, ℕ, List, [], ◌∷◌, Option, Some, None, string_bytes, codes}
 use Rattle.bench.specs.declared.Failure.{Failure}
 use Rattle.bench.specs.declared.Failure.TheVariants.{Told, Memory, Input, Output}
+
+-- the line for standard error; how the system words an error of its own is not said
+abbrev pub told : Failure → Option (List ℕ)
+told (Told line) = Some (string_bytes line)
+told Memory = Some (codes "bench: out of memory")
+told (Input e) = None
+told (Output e) = None
 
 -- a line for standard error, unless there is no memory for it
 abbrev pub Tells : Failure → List ℕ → Type 0

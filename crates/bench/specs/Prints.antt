@@ -1,6 +1,5 @@
 -- What the program prints for each command.
 use Rattle.std.specs.Prelude.{◌≡◌, ℕ, List, Ok, Err, string_bytes, Result, String}
-use Rattle.std.specs.declared.alloc.AllocError.{AllocError}
 use Rattle.std.specs.declared.alloc.Global.{Global}
 use Rattle.bench.specs.declared.Failure.{Failure}
 use Rattle.bench.specs.declared.Failure.TheVariants.{Told, Memory, Input, Output}
@@ -14,11 +13,6 @@ use Rattle.reports.specs.Reports.{check_told, encode_told, text_told}
 -- a text to print, or why there is none
 abbrev pub Printed : Type 0
 Printed = Result (String Global) Failure
-
--- a text that was made is printed; where it was not, memory ran out
-abbrev pub printed : Result (String Global) AllocError → Printed
-printed (Ok told) = Ok told
-printed (Err e) = Err Memory
 
 -- this text, unless there is no memory for it
 abbrev pub Text : Printed → List ℕ → Type 0
