@@ -12,48 +12,59 @@ struct Case(&'static str, &'static str);
 
 // The words of a text, with `|` between two.
 fn words(heap: Global, text: &str) -> Result<Vec<String>, AllocError> {
-    let mut all = Vec::new(heap);
-    for word in text.split('|') {
-        all.push(String::from_str(heap, word)?)?;
-    }
-    Ok(all)
+    text.split('|')
+        .map(|word| String::from_str(heap, word))
+        .try_collect(heap)
+}
+
+// What comes of an input: the answer as text, or the fault's message.
+fn outcome<T, F: FnOnce(T) -> Result<String, AllocError>>(
+    heap: Global,
+    answer: Result<T, Fault>,
+    shown: F,
+) -> Result<String, AllocError>
+    requires { F.IsAlwaysCallable shown }
+{
+    answer.map_or_else(|fault| fault.to_string(heap), shown)
 }
 
 fn hex_outcome(heap: Global, words: &[String]) -> Result<String, AllocError> {
-    match parse_hex(heap, words) {
-        Ok(bytes) => hex_text(heap, bytes.as_slice()),
-        Err(fault) => format!(in heap; "{fault}"),
-    }
+    outcome(heap, parse_hex(heap, words), |bytes| hex_text(heap, &bytes))
 }
 
 fn bits_outcome(heap: Global, text: &str) -> Result<String, AllocError> {
-    match parse_bits(heap, text.as_bytes()) {
-        Ok(bits) => bit_text(heap, bits.as_slice()),
-        Err(fault) => format!(in heap; "{fault}"),
-    }
+    outcome(
+        heap,
+        parse_bits(heap, text.as_bytes()),
+        |bits| bit_text(heap, &bits),
+    )
 }
 
-fn source_outcome(heap: Global, source: Source) -> Result<String, AllocError> {
-    match source {
-        Source::StandardInput => String::from_str(heap, "read standard input"),
-        Source::File(path) => format!(in heap; "read file {path}"),
-    }
+fn reading_outcome(heap: Global, text: &str) -> Result<String, AllocError> {
+    outcome(heap, text_report(heap, text.as_bytes()), Ok)
 }
 
 fn command_outcome(heap: Global, words: &[String]) -> Result<String, AllocError> {
-    match parse_command(heap, words) {
-        Ok(Command::Help) => String::from_str(heap, "help"),
-        Ok(Command::Check(bytes)) => {
-            let hex = hex_text(heap, bytes.as_slice())?;
-            format!(in heap; "check {hex}")
-        }
-        Ok(Command::Encode(bytes)) => {
-            let hex = hex_text(heap, bytes.as_slice())?;
-            format!(in heap; "encode {hex}")
-        }
-        Ok(Command::Read(source)) => source_outcome(heap, source),
-        Err(fault) => format!(in heap; "{fault}"),
-    }
+    outcome(
+        heap,
+        parse_command(heap, words),
+        |command| command_text(heap, &command),
+    )
+}
+
+fn command_text(heap: Global, command: &Command) -> Result<String, AllocError> {
+    let (name, bytes) = match command {
+        Command::Help => return String::from_str(heap, "help"),
+        Command::Read(Source::StandardInput) => return String::from_str(
+            heap,
+            "read standard input",
+        ),
+        Command::Read(Source::File(path)) => return format!(in heap; "read file {path}"),
+        Command::Check(bytes) => ("check", bytes),
+        Command::Encode(bytes) => ("encode", bytes),
+    };
+    let hex = hex_text(heap, bytes)?;
+    format!(in heap; "{name} {hex}")
 }
 
 const HEX: [Case; 20] = [
@@ -141,19 +152,19 @@ const COMMANDS: [Case; 20] = [
 #[test]
 fn hexadecimal_words(rt: HostRuntime) -> Result<(), Fail> {
     let heap = rt.alloc();
-    for case in HEX {
-        let words = words(heap, case.0)?;
-        assert_eq!(rt; hex_outcome(heap, words.as_slice())?.as_str(), case.1);
+    for Case(given, told) in HEX {
+        let words = words(heap, given)?;
+        assert_eq!(rt; hex_outcome(heap, &words)?.as_str(), told);
     }
     let none: Vec<String> = Vec::new(heap);
-    assert_eq!(rt; hex_outcome(heap, none.as_slice())?.as_str(), "");
+    assert_eq!(rt; hex_outcome(heap, &none)?.as_str(), "");
     Ok(())
 }
 
 #[test]
 fn bit_texts(rt: HostRuntime) -> Result<(), Fail> {
-    for case in BITS {
-        assert_eq!(rt; bits_outcome(rt.alloc(), case.0)?.as_str(), case.1);
+    for Case(given, told) in BITS {
+        assert_eq!(rt; bits_outcome(rt.alloc(), given)?.as_str(), told);
     }
     Ok(())
 }
@@ -161,12 +172,12 @@ fn bit_texts(rt: HostRuntime) -> Result<(), Fail> {
 #[test]
 fn commands(rt: HostRuntime) -> Result<(), Fail> {
     let heap = rt.alloc();
-    for case in COMMANDS {
-        let words = words(heap, case.0)?;
-        assert_eq!(rt; command_outcome(heap, words.as_slice())?.as_str(), case.1);
+    for Case(given, told) in COMMANDS {
+        let words = words(heap, given)?;
+        assert_eq!(rt; command_outcome(heap, &words)?.as_str(), told);
     }
     let none: Vec<String> = Vec::new(heap);
-    assert_eq!(rt; command_outcome(heap, none.as_slice())?.as_str(), "help");
+    assert_eq!(rt; command_outcome(heap, &none)?.as_str(), "help");
     Ok(())
 }
 
@@ -232,17 +243,10 @@ const READINGS: [Case; 6] = [
     ),
 ];
 
-fn reading_outcome(heap: Global, text: &str) -> Result<String, AllocError> {
-    match text_report(heap, text.as_bytes()) {
-        Ok(told) => Ok(told),
-        Err(fault) => format!(in heap; "{fault}"),
-    }
-}
-
 #[test]
 fn read_reports(rt: HostRuntime) -> Result<(), Fail> {
-    for case in READINGS {
-        assert_eq!(rt; reading_outcome(rt.alloc(), case.0)?.as_str(), case.1);
+    for Case(given, told) in READINGS {
+        assert_eq!(rt; reading_outcome(rt.alloc(), given)?.as_str(), told);
     }
     Ok(())
 }
