@@ -1,157 +1,145 @@
 // Frames with bits flipped on the line: none may be read as good with as many bits as were sent.
+use crate::counts::Counts;
 use crate::frames;
 use framing::Verdict;
 use std::alloc::{AllocError, Global};
 
-#[derive(Drop)]
-pub struct Damage {
-    pub readings: u32,
-    // readings that have a good stretch with as many bits after zero deletion as the frame sent
-    pub good: u32,
+// Bits in a row, each of which can be flipped.
+trait Bits {
+    fn count(&self) -> usize;
+
+    // Flips the bit at the place, if there is one.
+    fn flip(&mut self, place: usize);
 }
 
-impl Damage {
-    fn new() -> Damage {
-        Damage {
-            readings: 0,
-            good: 0,
-        }
+impl Bits for Vec<bool> {
+    fn count(&self) -> usize {
+        self.len()
     }
 
-    fn count(&mut self, good: bool) {
-        self.readings = self.readings.saturating_add(1);
-        if good {
-            self.good = self.good.saturating_add(1);
-        }
-    }
-}
-
-// Which places of up to sixteen neighbouring ones a burst flips: the first and the last always, those between by its shape.
-const SHAPES: [u16; 4] = [0x0000, 0xFFFF, 0x5555, 0x9B26];
-
-const LENGTHS: [usize; 4] = [2, 3, 6, 11];
-
-// The same frames with nothing flipped, so that a reading that finds nothing good anywhere would show.
-pub(crate) fn none(heap: Global) -> Result<Damage, AllocError> {
-    let mut damage = Damage::new();
-    for content in frames::CONTENTS {
-        for length in 2..frames::LONGEST / 2 {
-            let bytes = frames::bytes_of(heap, content, length)?;
-            let line = framing::encode(heap, &bytes)?;
-            damage.count(has_good(heap, &line, sent_bits(&bytes))?);
-        }
-    }
-    Ok(damage)
-}
-
-// How many bits of a frame zero deletion leaves: eight for each byte, and sixteen of the check sequence.
-fn sent_bits(bytes: &[u8]) -> usize {
-    bytes.len().saturating_mul(8).saturating_add(16)
-}
-
-// Every single bit of the line flipped, flags included.
-pub(crate) fn single_bits(heap: Global) -> Result<Damage, AllocError> {
-    let mut damage = Damage::new();
-    for content in frames::CONTENTS {
-        for length in 2..frames::LONGEST / 2 {
-            let bytes = frames::bytes_of(heap, content, length)?;
-            flip_each(heap, &bytes, 1, 0, &mut damage)?;
-        }
-    }
-    Ok(damage)
-}
-
-// Every burst of two to sixteen bits of some shapes, at every place.
-pub(crate) fn bursts(heap: Global) -> Result<Damage, AllocError> {
-    let mut damage = Damage::new();
-    for content in frames::CONTENTS {
-        for length in LENGTHS {
-            let bytes = frames::bytes_of(heap, content, length)?;
-            for wide in 2..17usize {
-                for shape in SHAPES {
-                    flip_each(heap, &bytes, wide, shape, &mut damage)?;
-                }
-            }
-        }
-    }
-    Ok(damage)
-}
-
-// One burst at every place of a frame's line bits.
-fn flip_each(
-    heap: Global,
-    bytes: &[u8],
-    wide: usize,
-    shape: u16,
-    damage: &mut Damage,
-) -> Result<(), AllocError> {
-    let mut line = framing::encode(heap, bytes)?;
-    let sent = sent_bits(bytes);
-    for place in 0..line.len().saturating_sub(wide - wide.min(1)) {
-        flip(&mut line, place, wide, shape);
-        damage.count(has_good(heap, &line, sent)?);
-        flip(&mut line, place, wide, shape);
-    }
-    Ok(())
-}
-
-// Flips the first and the last of `wide` places, and those between that the shape names. Twice is not at all.
-fn flip(line: &mut [bool], place: usize, wide: usize, shape: u16) {
-    for (k, bit) in line.iter_mut().enumerate() {
-        if k < place || k - place >= wide {
-            continue;
-        }
-        let at = k - place;
-        let inner = (shape >> (at % 16)) & 1 == 1;
-        if at == 0 || at == wide - 1 || inner {
+    fn flip(&mut self, place: usize) {
+        if let Some(bit) = self.get_mut(place) {
             *bit = !*bit;
         }
     }
 }
 
-fn has_good(heap: Global, line: &[bool], n: usize) -> Result<bool, AllocError> {
-    for stretch in framing::read(heap, line)? {
-        if stretch.verdict == Verdict::Good && stretch.n == n {
-            return Ok(true);
+// Bit 0 of each byte first.
+impl Bits for Vec<u8> {
+    fn count(&self) -> usize {
+        self.len().saturating_mul(8)
+    }
+
+    fn flip(&mut self, place: usize) {
+        if let Some(byte) = self.get_mut(place / 8) {
+            *byte ^= 1u8 << (place % 8);
         }
     }
-    Ok(false)
+}
+
+// Which of up to sixteen neighbouring bits are flipped: the first and the last of `wide` always, those between by the shape.
+#[derive(Clone, Copy)]
+struct Burst {
+    wide: usize,
+    shape: u16,
+}
+
+const ONE_BIT: Burst = Burst { wide: 1, shape: 0 };
+
+const SHAPES: [u16; 4] = [0x0000, 0xFFFF, 0x5555, 0x9B26];
+
+impl Burst {
+    fn flips(self, at: usize) -> bool {
+        at == 0 || at == self.wide.saturating_sub(1) || (self.shape >> (at % 16)) & 1 == 1
+    }
+
+    // Flips its bits from the place on. Twice is not at all.
+    fn flip<B: Bits>(self, bits: &mut B, place: usize) {
+        for at in (0..self.wide).filter(|at| self.flips(*at)) {
+            bits.flip(place.saturating_add(at));
+        }
+    }
+
+    // The burst at every place of the bits, one at a time; counts with how many of them `good` answers true.
+    fn everywhere<B: Bits, F: Fn(&B) -> Result<bool, AllocError>>(
+        self,
+        bits: &mut B,
+        counts: &mut Counts,
+        good: F,
+    ) -> Result<(), AllocError>
+        requires { F.IsAlwaysCallable good }
+    {
+        for place in 0..bits.count().saturating_sub(self.wide.saturating_sub(1)) {
+            self.flip(bits, place);
+            counts.count(good(bits)?);
+            self.flip(bits, place);
+        }
+        Ok(())
+    }
+}
+
+// The bursts of each shape, from this many bits to sixteen.
+fn bursts_from(heap: Global, narrowest: usize) -> Result<Vec<Burst>, AllocError> {
+    let mut bursts = Vec::new(heap);
+    for wide in narrowest..17 {
+        for shape in SHAPES {
+            bursts.push(Burst { wide, shape })?;
+        }
+    }
+    Ok(bursts)
+}
+
+const LENGTHS: [usize; 4] = [2, 3, 6, 11];
+
+fn has_good(heap: Global, line: &[bool], n: usize) -> Result<bool, AllocError> {
+    let stretches = framing::read(heap, line)?;
+    Ok(stretches.iter().any(|stretch| stretch.verdict == Verdict::Good && stretch.n == n))
+}
+
+// The frames with nothing flipped, so that a reading that finds nothing good anywhere would show.
+pub(crate) fn none(heap: Global) -> Result<Counts, AllocError> {
+    let mut counts = Counts::default();
+    for bytes in frames::of_lengths(heap, 2..frames::LONGEST / 2)? {
+        let line = framing::encode(heap, &bytes)?;
+        counts.count(has_good(heap, &line, frames::sent_bits(&bytes))?);
+    }
+    Ok(counts)
+}
+
+// Every burst at every place of the frames' line bits, flags included.
+fn on_lines(heap: Global, frames: &[Vec<u8>], bursts: &[Burst]) -> Result<Counts, AllocError> {
+    let mut counts = Counts::default();
+    for bytes in frames {
+        let mut line = framing::encode(heap, bytes)?;
+        let sent = frames::sent_bits(bytes);
+        for burst in bursts {
+            burst.everywhere(&mut line, &mut counts, |line| has_good(heap, line, sent))?;
+        }
+    }
+    Ok(counts)
+}
+
+// Every single bit of the line flipped.
+pub(crate) fn single_bits(heap: Global) -> Result<Counts, AllocError> {
+    let frames = frames::of_lengths(heap, 2..frames::LONGEST / 2)?;
+    on_lines(heap, &frames, &[ONE_BIT])
+}
+
+// Every burst of two to sixteen bits of some shapes, at every place.
+pub(crate) fn bursts(heap: Global) -> Result<Counts, AllocError> {
+    let frames = frames::of_lengths(heap, LENGTHS.iter().copied())?;
+    on_lines(heap, &frames, &bursts_from(heap, 2)?)
 }
 
 // Bytes with their check sequence, and bursts in these: none may match.
-pub(crate) fn bytes(heap: Global) -> Result<Damage, AllocError> {
-    let mut damage = Damage::new();
-    for content in frames::CONTENTS {
-        for length in LENGTHS {
-            let mut list = frames::bytes_of(heap, content, length)?;
-            let check = fcs::fcs_check_sequence(&list);
-            list.push((check & 0xFF) as u8)?;
-            list.push((check >> 8) as u8)?;
-            for wide in 1..17usize {
-                for shape in SHAPES {
-                    burst_bytes(&mut list, wide, shape, &mut damage);
-                }
-            }
+pub(crate) fn bytes(heap: Global) -> Result<Counts, AllocError> {
+    let mut counts = Counts::default();
+    for mut list in frames::of_lengths(heap, LENGTHS.iter().copied())? {
+        let check = fcs::fcs_check_sequence(&list);
+        list.extend_from_slice(&check.to_le_bytes())?;
+        for burst in bursts_from(heap, 1)? {
+            burst.everywhere(&mut list, &mut counts, |list| Ok(fcs::fcs_matches(list)))?;
         }
     }
-    Ok(damage)
-}
-
-fn burst_bytes(list: &mut [u8], wide: usize, shape: u16, damage: &mut Damage) {
-    let bits = list.len().saturating_mul(8);
-    for place in 0..bits.saturating_sub(wide - wide.min(1)) {
-        flip_bytes(list, place, wide, shape);
-        damage.count(fcs::fcs_matches(list) == 1);
-        flip_bytes(list, place, wide, shape);
-    }
-}
-
-fn flip_bytes(list: &mut [u8], place: usize, wide: usize, shape: u16) {
-    for at in 0..wide {
-        let k = place.saturating_add(at);
-        let inner = (shape >> (at % 16)) & 1 == 1;
-        if (at == 0 || at == wide - 1 || inner) && k / 8 < list.len() {
-            list[k / 8] ^= 1u8 << (k % 8);
-        }
-    }
+    Ok(counts)
 }

@@ -1,6 +1,7 @@
 // The table of the 16-bit FCS that implementations of PPP carry as `fcstab`. The numbers here were copied from this project's own table and
 // then compared, on 2026-11-18, with `fcstab` in four files of ppp 2.4.9 (pppdump/pppdump.c, pppd/demand.c and both ppp_ahdlc.c): all 256
-// agree in each. The text of RFC 1662, which that table follows, was not at hand.
+// agree in each. The text of RFC 1662, which that table follows, was not at hand. They stand here number by number, and are not computed:
+// the project's table is compared with data from outside.
 pub const FCSTAB: [u16; 256] = [
     0x0000, 0x1189, 0x2312, 0x329B, 0x4624, 0x57AD, 0x6536, 0x74BF, 0x8C48, 0x9DC1, 0xAF5A, 0xBED3,
     0xCA6C, 0xDBE5, 0xE97E, 0xF8F7, 0x1081, 0x0108, 0x3393, 0x221A, 0x56A5, 0x472C, 0x75B7, 0x643E,

@@ -2,6 +2,7 @@
 // `stdout` of this crate has what it must print.
 #![tactic(auto)]
 
+mod counts;
 mod damage;
 mod fcstab;
 mod frames;
@@ -9,10 +10,6 @@ mod plain;
 mod streams;
 
 fn main(rt: HostRuntime) -> anyhow::Result<()> {
-    run(&rt)
-}
-
-fn run(rt: &HostRuntime) -> anyhow::Result<()> {
     let heap = rt.alloc();
     println!(rt;
         "table: {} of 256 entries differ from PPP's fcstab",
@@ -25,27 +22,27 @@ fn run(rt: &HostRuntime) -> anyhow::Result<()> {
     let frames = frames::read_back(heap)?;
     println!(rt;
         "frames: {} sent, {} not read back as sent",
-        frames.sent, frames.failed
+        frames.tried, frames.hits
     )?;
     let whole = damage::none(heap)?;
     println!(rt;
         "nothing flipped: {} readings, {} good with as many bits",
-        whole.readings, whole.good
+        whole.tried, whole.hits
     )?;
     let flips = damage::single_bits(heap)?;
     println!(rt;
         "one bit flipped: {} readings, {} good with as many bits",
-        flips.readings, flips.good
+        flips.tried, flips.hits
     )?;
     let bursts = damage::bursts(heap)?;
     println!(rt;
         "bursts of up to 16 bits: {} readings, {} good with as many bits",
-        bursts.readings, bursts.good
+        bursts.tried, bursts.hits
     )?;
     let bytes = damage::bytes(heap)?;
     println!(rt;
         "bursts in bytes with their check sequence: {} lists, {} that match",
-        bytes.readings, bytes.good
+        bytes.tried, bytes.hits
     )?;
     let seen = streams::compared(heap, 5000)?;
     println!(rt;
@@ -56,11 +53,9 @@ fn run(rt: &HostRuntime) -> anyhow::Result<()> {
 }
 
 fn table_differences() -> usize {
-    let mut count = 0usize;
-    for (ours, theirs) in fcs::FCS_TABLE.iter().zip(fcstab::FCSTAB.iter()) {
-        if *ours != *theirs {
-            count = count.saturating_add(1);
-        }
-    }
-    count
+    fcs::FCS_TABLE
+        .iter()
+        .zip(fcstab::FCSTAB.iter())
+        .filter(|(ours, theirs)| ours != theirs)
+        .count()
 }

@@ -1,83 +1,39 @@
 // A second reader of line bits, written from the rules by places in the list and with no state, to compare `framing::read` with on
-// random streams.
+// random streams. It shares only the type of a stretch with `framing`: its flag, its limits and its check register, which goes bit by bit
+// and by no table, stand here a second time so that a mistake there would show.
 use framing::{Stretch, Verdict};
 use std::alloc::{AllocError, Global};
 
 const FLAG: [bool; 8] = [false, true, true, true, true, true, true, false];
 
-fn bit(bits: &[bool], place: usize) -> bool {
-    match bits.get(place) {
-        Some(b) => *b,
-        None => false,
-    }
+// The seventh 1 in a row comes last.
+fn ends_in_abort(bits: &[bool]) -> bool {
+    bits.ends_with(&[true; 7]) && !bits.ends_with(&[true; 8])
 }
 
-// The last bit of a flag stands at the place.
-fn ends_flag(bits: &[bool], place: usize) -> bool {
-    if place < 7 {
-        return false;
-    }
-    for (k, wanted) in FLAG.iter().enumerate() {
-        if bit(bits, (place - 7).saturating_add(k)) != *wanted {
-            return false;
-        }
-    }
-    true
-}
-
-// `count` 1s stand just before the place.
-fn ones_before(bits: &[bool], place: usize, count: usize) -> bool {
-    if place < count {
-        return false;
-    }
-    for k in place - count..place {
-        if !bit(bits, k) {
-            return false;
-        }
-    }
-    true
-}
-
-// The seventh 1 in a row stands at the place.
-fn ends_abort(bits: &[bool], place: usize) -> bool {
-    bit(bits, place) && ones_before(bits, place, 6) && !ones_before(bits, place, 7)
-}
-
+// What is left without each 0 that follows five 1s.
 fn deleted(heap: Global, stretch: &[bool]) -> Result<Vec<bool>, AllocError> {
     let mut left = Vec::new(heap);
-    for (place, b) in stretch.iter().enumerate() {
-        if *b || !ones_before(stretch, place, 5) {
-            left.push(*b)?;
+    for (place, bit) in stretch.iter().enumerate() {
+        if *bit || !stretch[..place].ends_with(&[true; 5]) {
+            left.push(*bit)?;
         }
     }
     Ok(left)
 }
 
 fn matching(bits: &[bool]) -> bool {
-    let mut register = 0xFFFFu16;
-    for b in bits {
-        let t = u16::from(*b) ^ (register & 1);
-        register >>= 1;
-        if t == 1 {
-            register ^= 0x8408;
-        }
-    }
+    let register = bits.iter().fold(0xFFFFu16, |register, bit| {
+        let low = u16::from(*bit) ^ (register & 1);
+        (register >> 1) ^ if low == 1 { 0x8408 } else { 0 }
+    });
     register == 0xF0B8
 }
 
-fn content(heap: Global, bits: &[bool]) -> Result<Vec<u8>, AllocError> {
-    let mut bytes = Vec::new(heap);
-    let mut byte = 0u8;
-    for (place, b) in bits.iter().enumerate() {
-        if *b {
-            byte |= 1u8 << (place % 8);
-        }
-        if place % 8 == 7 || place.saturating_add(1) == bits.len() {
-            bytes.push(byte)?;
-            byte = 0;
-        }
-    }
-    Ok(bytes)
+fn byte(bits: &[bool]) -> u8 {
+    bits.iter()
+        .rev()
+        .fold(0, |above: u8, bit| (above << 1) | u8::from(*bit))
 }
 
 fn judged(heap: Global, stretch: &[bool]) -> Result<Stretch, AllocError> {
@@ -90,7 +46,10 @@ fn judged(heap: Global, stretch: &[bool]) -> Result<Stretch, AllocError> {
     } else {
         Verdict::Bad
     };
-    let content = content(heap, &left[0..n.saturating_sub(16)])?;
+    let content = left[..n.saturating_sub(16)]
+        .chunks(8)
+        .map(byte)
+        .collect(heap)?;
     Ok(Stretch {
         verdict,
         n,
@@ -101,33 +60,21 @@ fn judged(heap: Global, stretch: &[bool]) -> Result<Stretch, AllocError> {
 // Every stretch of the bits.
 pub(crate) fn read(heap: Global, bits: &[bool]) -> Result<Vec<Stretch>, AllocError> {
     let mut found = Vec::new(heap);
-    let mut since: Option<usize> = None;
+    // where the last flag ended, if no abort came since
+    let mut since = None;
     for place in 0..bits.len() {
-        if ends_abort(bits, place) {
+        let so_far = &bits[..place + 1];
+        if ends_in_abort(so_far) {
             since = None;
         }
-        if !ends_flag(bits, place) {
-            continue;
-        }
-        if let Some(first) = since {
-            let end = place.saturating_sub(7).max(first).min(bits.len());
-            if first <= end {
-                found.push(judged(heap, &bits[first..end])?)?;
+        if so_far.ends_with(&FLAG) {
+            if let Some(first) = since {
+                // a flag that shares its first 0 with the one before it leaves no bit between them
+                let end = so_far.len().saturating_sub(FLAG.len());
+                found.push(judged(heap, &so_far[end.min(first)..end])?)?;
             }
+            since = Some(so_far.len());
         }
-        since = Some(place.saturating_add(1));
     }
     Ok(found)
-}
-
-pub(crate) fn same(a: &[Stretch], b: &[Stretch]) -> bool {
-    if a.len() != b.len() {
-        return false;
-    }
-    for (x, y) in a.iter().zip(b.iter()) {
-        if x.verdict != y.verdict || x.n != y.n || x.content.as_slice() != y.content.as_slice() {
-            return false;
-        }
-    }
-    true
 }
