@@ -6,14 +6,14 @@ use std::alloc::{AllocError, Global};
 
 // Bits in a row, each of which can be flipped.
 trait Bits {
-    fn count(&self) -> usize;
+    fn bits(&self) -> usize;
 
     // Flips the bit at the place, if there is one.
     fn flip(&mut self, place: usize);
 }
 
 impl Bits for Vec<bool> {
-    fn count(&self) -> usize {
+    fn bits(&self) -> usize {
         self.len()
     }
 
@@ -26,7 +26,7 @@ impl Bits for Vec<bool> {
 
 // Bit 0 of each byte first.
 impl Bits for Vec<u8> {
-    fn count(&self) -> usize {
+    fn bits(&self) -> usize {
         self.len().saturating_mul(8)
     }
 
@@ -37,25 +37,25 @@ impl Bits for Vec<u8> {
     }
 }
 
-// Which of up to sixteen neighbouring bits are flipped: the first and the last of `wide` always, those between by the shape.
+// Which of up to sixteen neighbouring bits are flipped: the first and the last always, those between by the shape.
 #[derive(Clone, Copy)]
 struct Burst {
-    wide: usize,
+    width: usize,
     shape: u16,
 }
 
-const ONE_BIT: Burst = Burst { wide: 1, shape: 0 };
+const ONE_BIT: Burst = Burst { width: 1, shape: 0 };
 
 const SHAPES: [u16; 4] = [0x0000, 0xFFFF, 0x5555, 0x9B26];
 
 impl Burst {
     fn flips(self, at: usize) -> bool {
-        at == 0 || at == self.wide.saturating_sub(1) || (self.shape >> (at % 16)) & 1 == 1
+        at == 0 || at == self.width.saturating_sub(1) || (self.shape >> (at % 16)) & 1 == 1
     }
 
     // Flips its bits from the place on. Twice is not at all.
     fn flip<B: Bits>(self, bits: &mut B, place: usize) {
-        for at in (0..self.wide).filter(|at| self.flips(*at)) {
+        for at in (0..self.width).filter(|at| self.flips(*at)) {
             bits.flip(place.saturating_add(at));
         }
     }
@@ -69,7 +69,7 @@ impl Burst {
     ) -> Result<(), AllocError>
         requires { F.IsAlwaysCallable good }
     {
-        for place in 0..bits.count().saturating_sub(self.wide.saturating_sub(1)) {
+        for place in 0..bits.bits().saturating_sub(self.width.saturating_sub(1)) {
             self.flip(bits, place);
             counts.count(good(bits)?);
             self.flip(bits, place);
@@ -81,9 +81,9 @@ impl Burst {
 // The bursts of each shape, from this many bits to sixteen.
 fn bursts_from(heap: Global, narrowest: usize) -> Result<Vec<Burst>, AllocError> {
     let mut bursts = Vec::new(heap);
-    for wide in narrowest..17 {
+    for width in narrowest..=16 {
         for shape in SHAPES {
-            bursts.push(Burst { wide, shape })?;
+            bursts.push(Burst { width, shape })?;
         }
     }
     Ok(bursts)

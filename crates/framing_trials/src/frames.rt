@@ -75,7 +75,7 @@ pub(crate) fn sent_bits(bytes: &[u8]) -> usize {
 // Sends each frame and reads it back: how many there are, and how many are not read as they should be.
 pub(crate) fn read_back(heap: Global) -> Result<Counts, AllocError> {
     let mut counts = Counts::default();
-    for bytes in of_lengths(heap, 0..LONGEST + 1)? {
+    for bytes in of_lengths(heap, 0..=LONGEST)? {
         counts.count(!reads_back(heap, &bytes)?);
     }
     Ok(counts)

@@ -62,18 +62,18 @@ pub(crate) fn read(heap: Global, bits: &[bool]) -> Result<Vec<Stretch>, AllocErr
     let mut found = Vec::new(heap);
     // where the last flag ended, if no abort came since
     let mut since = None;
-    for place in 0..bits.len() {
-        let so_far = &bits[..place + 1];
+    for end in 1..=bits.len() {
+        let so_far = &bits[..end];
         if ends_in_abort(so_far) {
             since = None;
         }
         if so_far.ends_with(&FLAG) {
             if let Some(first) = since {
                 // a flag that shares its first 0 with the one before it leaves no bit between them
-                let end = so_far.len().saturating_sub(FLAG.len());
-                found.push(judged(heap, &so_far[end.min(first)..end])?)?;
+                let last = end.saturating_sub(FLAG.len());
+                found.push(judged(heap, &bits[last.min(first)..last])?)?;
             }
-            since = Some(so_far.len());
+            since = Some(end);
         }
     }
     Ok(found)
