@@ -10,11 +10,6 @@ unfolding register_after
 after_append r [] ys = refl
 after_append r (x ∷ xs) ys = after_append (bit_step r x) xs ys
 
--- one bit more at the end
-pub after_push : (r : ℕ) (xs : List Bool) (b : Bool) → register_after r (xs ++ (b ∷ [])) ≡ bit_step (register_after r xs) b
-unfolding register_after
-after_push r xs b = after_append r xs (b ∷ [])
-
 -- what the units of a list of bytes spell, and those of a list of bits
 pub bits_of_bytes : (bytes : List ℕ) → flat_map (low_bits 8) bytes ≡ byte_bits bytes
 unfolding byte_bits

@@ -1,6 +1,7 @@
 -- A sent frame is read back.
-use Rattle.std.proofs.Common.{◌≡◌, ℕ, suc, ◌+◌, ◌-◌, ◌*◌, ◌<◌, ◌≤◌, Bool, true, false, cond, eqb, leb, List, [], ◌∷◌, ◌++◌, reverse, length, take, sym, refl, ap, ◌∙◌, subst, ap₂, arith}
+use Rattle.std.proofs.Common.{◌≡◌, ℕ, suc, ◌+◌, ◌-◌, ◌*◌, ◌^◌, ◌<◌, ◌≤◌, Bool, true, false, cond, eqb, leb, List, [], ◌∷◌, ◌++◌, reverse, length, get_or, take, sym, refl, ap, ◌∙◌, subst, ap₂, arith}
 use mathlib.Core.List.{reverse_aux, reverse_aux-append, reverse-reverse}
+use Rattle.std.proofs.ByRecursion.{All-from_get_or}
 use Rattle.std.proofs.lemmas.List.{take_at, length-append}
 use Rattle.std.proofs.lemmas.Bool.{lt-ltb, le-ltb, le-leb, leb-true, leb-false, eqb-true, eqb-false}
 use Rattle.fcs.specs.Fcs.{byte_bits, low_bits, check_sequence, matches, good_residue}
@@ -9,10 +10,12 @@ use Rattle.framing.specs.Bytes.{bytes, Bytes}
 use Rattle.framing.specs.Reading.{flag_bits, judged, verdict_of, Judgement, stretches, good_contents}
 use Rattle.framing.specs.Insertion.{inserted_from, inserted, content_bits, frame_bits}
 use Rattle.framing.specs.Laws.{whole, ReadBack}
+use Rattle.framing.specs.Stages.{Counted, sent}
 use Rattle.framing.specs.declared.outcome.Verdict.{Verdict}
 use Rattle.framing.specs.declared.outcome.Verdict.TheVariants.{Ignored, Good}
 use Rattle.framing.proofs.Packed.{length_low_bits, length_byte_bits, bytes_return}
 use Rattle.framing.proofs.Steps.{stretches_1}
+use Rattle.framing.proofs.Lines.{frame_is}
 use Rattle.framing.proofs.Undone.{inserted_fifth, inserted_other}
 use Rattle.framing.proofs.Wire.{Sending, sending_start, sending_bit, sending_zero, sending_stretches, closing_start, closing_one, closing_ends}
 
@@ -125,3 +128,8 @@ pub frame_law : (g : List ℕ) → Bytes g → ReadBack g (frame_bits g)
 frame_law g s =
     let read = one_stretch (content_bits g) ∙ ap (λ (j : Judgement). j ∷ []) (judged_whole g s) in
     record { stretch = read; frame = λ l. ap good_contents read ∙ good_whole g l }
+
+-- and so are the bits that the code gives
+pub sent_back : (g : List ℕ) (s : Counted) → ((i : ℕ) → i < length g → get_or g i 0 < 2 ^ 8) → s.bits ≡ flag_bits → s.run ≡ 0
+    → ReadBack g ((sent (low_bits 16 (check_sequence g)) (sent (byte_bits g) s)).bits ++ flag_bits)
+sent_back g s small flagged none = subst (ReadBack g) (sym (frame_is g s flagged none)) (frame_law g (All-from_get_or (λ b. b < 256) g 0 small))

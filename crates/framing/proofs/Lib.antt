@@ -6,4 +6,3 @@ pub mod Framed
 pub mod Lines
 pub mod Received
 pub mod Bursts
-pub mod Folds

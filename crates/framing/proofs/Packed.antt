@@ -1,8 +1,8 @@
 -- Bits and bytes: bits of bytes, put in bytes again.
-use Rattle.std.proofs.Common.{◌≡◌, ℕ, zero, suc, ◌+◌, ◌-◌, ◌*◌, ◌/◌, ◌<◌, min, Bool, List, [], ◌∷◌, ◌++◌, length, take, drop, sym, refl, ap, ◌∙◌, ap₂, append_assoc, arith}
-use Rattle.std.proofs.lemmas.List.{length-append, length-drop, drop-drop}
+use Rattle.std.proofs.Common.{◌≡◌, ℕ, zero, suc, ◌+◌, ◌*◌, ◌/◌, ◌<◌, ◌≤◌, min, Bool, List, [], ◌∷◌, ◌++◌, length, sym, refl, ap, ◌∙◌, subst, ap₂, append_assoc, arith, pow_mono}
+use Rattle.std.proofs.lemmas.List.{length-append}
 use Rattle.fcs.specs.Fcs.{low_bits, byte_bits, spelt}
-use Rattle.fcs.proofs.Spelt.{spelt_low_bits}
+use Rattle.fcs.proofs.Spelt.{spelt_lt, spelt_low_bits}
 use Rattle.framing.specs.Bytes.{bytes, Bytes}
 
 pub length_low_bits : (k n : ℕ) → length (low_bits k n) ≡ k
@@ -38,37 +38,34 @@ length_bytes (a ∷ b ∷ c ∷ d ∷ e ∷ f ∷ []) = refl
 length_bytes (a ∷ b ∷ c ∷ d ∷ e ∷ f ∷ g ∷ []) = refl
 length_bytes (a ∷ b ∷ c ∷ d ∷ e ∷ f ∷ g ∷ h ∷ s) = omega (arith, length_bytes s)
 
--- ---- packing from the front
+-- fewer than eight bits leave room for one more
+pub spelt_few : (bs : List Bool) → length bs ≤ 7 → spelt bs < 128
+spelt_few bs few = omega (arith, spelt_lt bs, pow_mono few)
 
-bytes_front_8 : (s : List Bool) → 0 < length s → bytes s ≡ spelt (take (min (length s) 8) s) ∷ bytes (drop (min (length s) 8) s)
-bytes_front_8 [] h = absurd (omega arith)
-bytes_front_8 (a ∷ []) h = refl
-bytes_front_8 (a ∷ b ∷ []) h = refl
-bytes_front_8 (a ∷ b ∷ c ∷ []) h = refl
-bytes_front_8 (a ∷ b ∷ c ∷ d ∷ []) h = refl
-bytes_front_8 (a ∷ b ∷ c ∷ d ∷ e ∷ []) h = refl
-bytes_front_8 (a ∷ b ∷ c ∷ d ∷ e ∷ f ∷ []) h = refl
-bytes_front_8 (a ∷ b ∷ c ∷ d ∷ e ∷ f ∷ g ∷ []) h = refl
-bytes_front_8 (a ∷ b ∷ c ∷ d ∷ e ∷ f ∷ g ∷ i ∷ s) h =
-    let all : List Bool = a ∷ b ∷ c ∷ d ∷ e ∷ f ∷ g ∷ i ∷ s in
-    let e₈ : 8 ≡ min (length all) 8 = omega arith in
-    ap (λ (m : ℕ). spelt (take m all) ∷ bytes (drop m all)) e₈
+-- a chunk of bits from the front, eight or all that there are, is one byte
+bytes_chunk : (chunk more : List Bool) → length chunk ≡ min 8 (length (chunk ++ more)) → 0 < length (chunk ++ more) → bytes (chunk ++ more) ≡ spelt chunk ∷ bytes more
+bytes_chunk [] more e h = absurd (omega arith)
+bytes_chunk (a ∷ []) [] e h = refl
+bytes_chunk (a ∷ b ∷ []) [] e h = refl
+bytes_chunk (a ∷ b ∷ c ∷ []) [] e h = refl
+bytes_chunk (a ∷ b ∷ c ∷ d ∷ []) [] e h = refl
+bytes_chunk (a ∷ b ∷ c ∷ d ∷ f ∷ []) [] e h = refl
+bytes_chunk (a ∷ b ∷ c ∷ d ∷ f ∷ g ∷ []) [] e h = refl
+bytes_chunk (a ∷ b ∷ c ∷ d ∷ f ∷ g ∷ i ∷ []) [] e h = refl
+bytes_chunk (a ∷ b ∷ c ∷ d ∷ f ∷ g ∷ i ∷ j ∷ []) more e h = refl
+bytes_chunk (a ∷ []) (x ∷ more) e h = absurd (omega arith)
+bytes_chunk (a ∷ b ∷ []) (x ∷ more) e h = absurd (omega arith)
+bytes_chunk (a ∷ b ∷ c ∷ []) (x ∷ more) e h = absurd (omega arith)
+bytes_chunk (a ∷ b ∷ c ∷ d ∷ []) (x ∷ more) e h = absurd (omega arith)
+bytes_chunk (a ∷ b ∷ c ∷ d ∷ f ∷ []) (x ∷ more) e h = absurd (omega arith)
+bytes_chunk (a ∷ b ∷ c ∷ d ∷ f ∷ g ∷ []) (x ∷ more) e h = absurd (omega arith)
+bytes_chunk (a ∷ b ∷ c ∷ d ∷ f ∷ g ∷ i ∷ []) (x ∷ more) e h = absurd (omega arith)
+bytes_chunk (a ∷ b ∷ c ∷ d ∷ f ∷ g ∷ i ∷ j ∷ k ∷ chunk) more e h = absurd (omega arith)
 
--- one byte more: m bits from the place `at` on, eight or all that are left
-pub packed_more :
-    (out out' : List ℕ) (bits : List Bool) (at m byte : ℕ) →
-    at < length bits →
-    m ≡ min (length bits - at) 8 →
-    byte ≡ spelt (take m (drop at bits)) →
-    out' ≡ out ++ (byte ∷ []) →
-    out' ++ bytes (drop (at + m) bits) ≡ out ++ bytes (drop at bits)
-packed_more out out' bits at m byte l e b o =
-    let s = drop at bits in
-    let m_is : m ≡ min (length s) 8 = omega (arith, length-drop at bits, e) in
-    let s_is : bytes s ≡ byte ∷ bytes (drop (at + m) bits) =
-    bytes_front_8 s (omega (arith, length-drop at bits)) ∙
-    ap₂ (λ (x : ℕ) (y : List ℕ). x ∷ y)
-    (ap (λ (k : ℕ). spelt (take k s)) (sym m_is) ∙ sym b)
-    (ap (λ (k : ℕ). bytes (drop k s)) (sym m_is) ∙ ap bytes (drop-drop m at bits)) in
-    ap (λ (x : List ℕ). x ++ bytes (drop (at + m) bits)) o ∙
-    (append_assoc out (byte ∷ []) (bytes (drop (at + m) bits)) ∙ ap (λ (x : List ℕ). out ++ x) (sym s_is))
+-- and so in a loop over the chunks, of what is left
+pub chunk_more : (out : List ℕ) (rest chunk more : List Bool) (size : ℕ) → size ≡ 8 → rest ≡ chunk ++ more → length chunk ≡ min size (length rest) → 0 < length rest
+    → (out ++ (spelt chunk ∷ [])) ++ bytes more ≡ out ++ bytes rest
+chunk_more out rest chunk more size eight parts e some =
+    append_assoc out (spelt chunk ∷ []) (bytes more)
+    ∙ ap (λ l. out ++ l)
+    (sym (bytes_chunk chunk more (e ∙ ap₂ (λ n l. min n (length l)) eight parts) (subst (λ l. 0 < length l) parts some)) ∙ ap bytes (sym parts))

@@ -2,9 +2,8 @@
 use Rattle.std.proofs.Common.{◌≡◌, ℕ, suc, ◌≤◌, Bool, true, false, eqb, List, [], ◌∷◌, reverse, refl, ap, ◌∙◌, arith}
 use mathlib.Core.List.{reverse_aux, reverse-reverse}
 use Rattle.std.proofs.lemmas.Bool.{le-leb, lt-leb, eqb-true, eqb-false}
-use Rattle.framing.specs.Reading.{ones, deleted}
-use Rattle.framing.specs.Insertion.{inserted_from}
-use Rattle.framing.specs.Laws.{InsertionUndone}
+use Rattle.framing.specs.Reading.{ones, deleted, left}
+use Rattle.framing.specs.Insertion.{inserted_from, inserted}
 
 -- zero insertion at a 1 that is the fifth in a row, and at one that is not
 pub inserted_fifth : (k : ℕ) (c : List Bool) → eqb k 4 ≡ true → inserted_from k (true ∷ c) ≡ true ∷ false ∷ inserted_from 0 c
@@ -29,5 +28,5 @@ undone (true ∷ c) s l = go (eqb (ones s) 4) refl (undone c)
         ap (reverse_aux c) (rw (le-leb 5 (suc (ones s)) (let d = eqb-true (ones s) 4 e in omega arith))))
     go false e ih = rw e (ih (true ∷ s) (let d : ones s ≡ 4 → ⊥ = eqb-false (ones s) 4 e in omega arith))
 
-pub insertion_undone : InsertionUndone
+pub insertion_undone : (c : List Bool) → left (reverse (inserted c)) ≡ c
 insertion_undone c = ap reverse (undone c [] (omega arith)) ∙ reverse-reverse c

@@ -1,61 +1,39 @@
 -- How the code goes, bit by bit: what its private functions leave. The promises of the public calls do not rest on these words.
-use Rattle.std.specs.Prelude.{ℕ, ◌+◌, ◌-◌, min, Bool, true, false, cond, ◌&&◌, List, [], ◌∷◌, ◌++◌, map, length, take, vec_items, fold, ◌==◌}
-use Rattle.fcs.specs.Fcs.{low_bits, byte_bits, check_sequence}
-use Rattle.framing.specs.Reading.{flag_bits, Judgement, judged, as_read}
-use Rattle.framing.specs.declared.encoder.Encoder.{Encoder}
-use Rattle.framing.specs.declared.deletion.Deleter.{Deleter}
-use Rattle.framing.specs.declared.reader.Reader.{Reader}
+use Rattle.std.specs.Prelude.{ℕ, ◌+◌, ◌-◌, min, Bool, true, false, cond, List, [], ◌∷◌, ◌++◌, length, take, fold, Option, Some, None, ◌==◌}
+use Rattle.std.specs.Option.{option_map}
+use Rattle.framing.specs.Reading.{Judgement, judged}
+
+-- bits so far, and the run of 1s at their end, as zero insertion or zero deletion counts it
+pub record Counted : Type 0 where
+  pub bits : List Bool
+  pub run : ℕ
+
+abbrev pub nothing : Counted
+nothing = record { bits = []; run = 0 }
 
 -- ---- sending
 
--- the line bits so far, and the run of 1s that zero insertion counts
-pub record Sent : Type 0 where
-  pub bits : List Bool
-  pub run : ℕ
-
-abbrev pub line_of : Encoder → Sent
-line_of e = record { bits = vec_items e.bits; run = e.run }
-
 -- a content bit is the fifth 1 in a row; and the run after it
-abbrev pub fifth : Bool → ℕ → Bool
-fifth false k = false
-fifth true k = k == 4
+abbrev pub fifth : ℕ → Bool → Bool
+fifth k false = false
+fifth k true = k == 4
 
-abbrev pub run_on : Bool → ℕ → ℕ
-run_on false k = 0
-run_on true k = cond (k == 4) 0 (k + 1)
+abbrev pub run_on : ℕ → Bool → ℕ
+run_on k false = 0
+run_on k true = cond (k == 4) 0 (k + 1)
 
 -- one content bit, and then more of them
-abbrev pub sent_bit : Bool → Sent → Sent
-sent_bit b s =
+abbrev pub sent_bit : Counted → Bool → Counted
+sent_bit s b =
     let bits = s.bits ++ (b ∷ []) in
-    record { bits = cond (fifth b s.run) (bits ++ (false ∷ [])) bits; run = run_on b s.run }
+    record { bits = cond (fifth s.run b) (bits ++ (false ∷ [])) bits; run = run_on s.run b }
 
-abbrev pub sent : List Bool → Sent → Sent
-sent [] s = s
-sent (b ∷ bs) s = sent bs (sent_bit b s)
+abbrev pub sent : List Bool → Counted → Counted
+sent bs s = fold sent_bit s bs
 
--- a whole frame: flag, bytes, check sequence, flag
-abbrev pub after_flag : Sent
-after_flag = record { bits = [] ++ flag_bits; run = 0 }
+-- ---- zero deletion, the oldest bit first; the run is at most five
 
-abbrev pub sent_frame : List ℕ → List Bool
-sent_frame g = (sent (low_bits 16 (check_sequence g)) (sent (byte_bits g) after_flag)).bits ++ flag_bits
-
--- ---- zero deletion, the oldest bit first
-
--- the bits kept so far, and how many 1s in a row came last, at most five
-pub record Kept : Type 0 where
-  pub bits : List Bool
-  pub run : ℕ
-
-abbrev pub kept_in : Deleter → Kept
-kept_in r = record { bits = vec_items r.bits; run = r.run }
-
-abbrev pub none_kept : Kept
-none_kept = record { bits = []; run = 0 }
-
-abbrev pub kept_bit : Kept → Bool → Kept
+abbrev pub kept_bit : Counted → Bool → Counted
 kept_bit k true = record { bits = k.bits ++ (true ∷ []); run = min 5 (k.run + 1) }
 kept_bit k false = record { bits = cond (k.run == 5) k.bits (k.bits ++ (false ∷ [])); run = 0 }
 
@@ -66,89 +44,42 @@ abbrev pub stretch_of : List Bool → List Bool
 stretch_of bits = take (length bits - 7) bits
 
 abbrev pub judged_since : List Bool → Judgement
-judged_since bits = judged (fold kept_bit none_kept (stretch_of bits)).bits
+judged_since bits = judged (fold kept_bit nothing (stretch_of bits)).bits
 
--- How a reader stands: the 1s in a row that came last, at most seven; whether a 0 has come; whether a flag has ended and no abort since;
--- the bits since that flag, the oldest first; and the stretches so far.
+-- How a reader stands: the 1s in a row that came last, at most seven, and seven while no 0 has come; the bits since the latest flag, the
+-- oldest first, if one has ended and no abort since; and the stretches so far.
 pub record ReaderState : Type 0 where
   pub ones : ℕ
-  pub started : Bool
-  pub within : Bool
-  pub bits : List Bool
+  pub since : Option (List Bool)
   pub found : List Judgement
 
-abbrev pub state_of : Reader → ReaderState
-state_of r =
-    record {
-      ones = r.ones;
-      started = r.started;
-      within = r.within;
-      bits = vec_items r.bits;
-      found = map as_read (vec_items r.found);
-    }
-
 abbrev pub initial_state : ReaderState
-initial_state = record { ones = 0; started = false; within = false; bits = []; found = [] }
+initial_state = record { ones = 7; since = None; found = [] }
 
 -- a bit is kept only after a flag
-abbrev pub keeps : Bool → List Bool → Bool → List Bool
-keeps true bits b = bits ++ (b ∷ [])
-keeps false bits b = bits
+abbrev pub keeps : Option (List Bool) → Bool → Option (List Bool)
+keeps since b = option_map (λ bits. bits ++ (b ∷ [])) since
 
 abbrev pub kept_by : ReaderState → Bool → ReaderState
-kept_by s b =
-    record {
-      ones = s.ones;
-      started = s.started;
-      within = s.within;
-      bits = keeps s.within s.bits b;
-      found = s.found;
-    }
-
-abbrev pub noted : ReaderState → ReaderState
-noted s =
-    record {
-      ones = s.ones;
-      started = s.started;
-      within = s.within;
-      bits = s.bits;
-      found = s.found ++ (judged_since s.bits ∷ []);
-    }
+kept_by s b = record { ones = s.ones; since = keeps s.since b; found = s.found }
 
 -- a flag ends a stretch only after another flag
-abbrev pub closes : Bool → List Bool → List Judgement → List Judgement
-closes true bits found = found ++ (judged_since bits ∷ [])
-closes false bits found = found
+abbrev pub closes : Option (List Bool) → List Judgement → List Judgement
+closes None found = found
+closes (Some bits) found = found ++ (judged_since bits ∷ [])
 
 abbrev pub closed_by : ReaderState → ReaderState
-closed_by s =
-    record {
-      ones = s.ones;
-      started = s.started;
-      within = true;
-      bits = [];
-      found = closes s.within s.bits s.found;
-    }
+closed_by s = record { ones = s.ones; since = Some []; found = closes s.since s.found }
 
--- a 1 that ends an abort or does not
-abbrev pub received_one : Bool → ReaderState → ReaderState
-received_one true s = record { ones = 7; started = s.started; within = false; bits = []; found = s.found }
-received_one false s =
-    record {
-      ones = min 7 (s.ones + 1);
-      started = s.started;
-      within = s.within;
-      bits = keeps s.within s.bits true;
-      found = s.found;
-    }
+-- a bit after exactly six 1s: a 1 ends an abort, and a 0 a flag
+abbrev pub ended_by : ReaderState → Bool → ReaderState
+ended_by s true = record { ones = 7; since = None; found = s.found }
+ended_by s false = record { ones = 0; since = Some []; found = closes s.since s.found }
 
--- a 0 that ends a flag or does not
-abbrev pub received_zero : Bool → ReaderState → ReaderState
-received_zero true s =
-    record { ones = 0; started = true; within = true; bits = []; found = closes s.within s.bits s.found }
-received_zero false s =
-    record { ones = 0; started = true; within = s.within; bits = keeps s.within s.bits false; found = s.found }
+-- any other bit
+abbrev pub going_on : ReaderState → Bool → ReaderState
+going_on s true = record { ones = min 7 (s.ones + 1); since = keeps s.since true; found = s.found }
+going_on s false = record { ones = 0; since = keeps s.since false; found = s.found }
 
 abbrev pub received : ReaderState → Bool → ReaderState
-received s true = received_one (s.ones == 6) s
-received s false = received_zero (s.ones == 6 && s.started) s
+received s b = cond (s.ones == 6) (ended_by s b) (going_on s b)

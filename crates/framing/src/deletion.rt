@@ -1,8 +1,9 @@
 // Zero deletion.
 ghost use Rattle.std.specs.Prelude.{◌≡◌, IfOk, fold, OnOk};
-ghost use Rattle.framing.specs.Stages.{kept_in, none_kept, kept_bit};
+ghost use Rattle.framing.specs.Stages.{nothing, kept_bit};
 
 use std::alloc::{AllocError, Global};
+use std::marker::Model;
 
 // The bits kept so far, and how many 1s in a row came last, at most five.
 #[derive(Drop)]
@@ -11,9 +12,20 @@ pub struct Deleter {
     run: u8,
 }
 
+impl Model for Deleter {
+    ghost use Rattle.std.specs.Prelude.{◌≤◌};
+    ghost use Rattle.framing.specs.Stages.{Counted};
+
+    ghost Value = { Counted };
+
+    ghost view = { λ d. record { bits = d.bits.items; run = d.run } };
+
+    ghost invariant = { λ d. d.run ≤ 5 };
+}
+
 impl Deleter {
     fn new(heap: Global) -> Deleter
-        ensures { kept_in result ≡ none_kept }
+        ensures { result ≡ nothing }
     {
         Deleter {
             bits: Vec::new(heap),
@@ -23,24 +35,19 @@ impl Deleter {
 
     // A 0 that follows five 1s in a row is dropped, and every other bit kept.
     fn bit(&mut self, bit: bool) -> Result<(), AllocError>
-        ensures { OnOk result (kept_in self.new ≡ kept_bit (kept_in self.old) bit) }
+        ensures { OnOk result (self.new ≡ kept_bit self.old bit) }
     {
-        if bit {
-            self.bits.push(true)?;
-            self.run = self.run.saturating_add(1).min(5);
-            return Ok(());
+        if bit || self.run != 5 {
+            self.bits.push(bit)?;
         }
-        if self.run != 5 {
-            self.bits.push(false)?;
-        }
-        self.run = 0;
+        self.run = if bit { (self.run + 1).min(5) } else { 0 };
         Ok(())
     }
 }
 
 // The bits that zero deletion leaves of a stretch.
 pub(crate) fn without_inserted(heap: Global, stretch: &[bool]) -> Result<Vec<bool>, AllocError>
-    ensures { IfOk result (λ v. v.items ≡ (fold kept_bit none_kept stretch.now).bits) }
+    ensures { IfOk result (λ v. v.items ≡ (fold kept_bit nothing stretch.now).bits) }
 {
     let mut deleter = Deleter::new(heap);
     for bit in stretch {

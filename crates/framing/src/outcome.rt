@@ -1,5 +1,6 @@
 // What the reading says of the bits between two flags.
-ghost use Rattle.std.specs.Prelude.{Some};
+ghost use Rattle.std.specs.Prelude.{◌≡◌, Some};
+ghost use Rattle.framing.specs.Reading.{verdict_of};
 ghost use Rattle.framing.specs.Words.{verdict_word};
 
 use std::fmt;
@@ -15,6 +16,20 @@ pub enum Verdict {
     Good,
 }
 
+impl Verdict {
+    // Fewer than 25 bits are too few to be a frame, and fewer than 32 no whole one.
+    pub(crate) fn of(n: usize, matching: bool) -> Verdict
+        ensures { result ≡ verdict_of n matching }
+    {
+        match n {
+            0..=24 => Verdict::Ignored,
+            25..=31 => Verdict::Bad,
+            _ if matching => Verdict::Good,
+            _ => Verdict::Bad,
+        }
+    }
+}
+
 // The verdict in one word.
 impl fmt::Display for Verdict {
     ghost output = { λ verdict. Some (verdict_word verdict) };
@@ -28,7 +43,8 @@ impl fmt::Display for Verdict {
     }
 }
 
-// One stretch of line bits between two flags.
+// One stretch of line bits between two flags. It is plain data: clauses name its fields, and `as_read` takes them as a judgement, so it
+// has no model.
 #[derive(PartialEq, Eq, Debug, Drop)]
 pub struct Stretch {
     pub verdict: Verdict,

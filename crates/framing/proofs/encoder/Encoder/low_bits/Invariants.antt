@@ -1,9 +1,9 @@
 use Rattle.std.proofs.Common.{◌≡◌, ◌-◌}
 use Rattle.fcs.specs.Fcs.{low_bits}
-use Rattle.framing.specs.Stages.{sent, line_of}
+use Rattle.framing.specs.Stages.{sent}
 use Rattle.framing.proofs.encoder.Encoder.low_bits.Given as goal
 
 -- the bits that are left take the line to where all of them take it
 abbrev pub invariant-loop-k : goal.invariant-loop-k
 invariant-loop-k l =
-    sent (low_bits (l.width - l._k) l.rest) (line_of l.self) ≡ sent (low_bits l.width l.value) (line_of l.initial.self)
+    sent (low_bits (l.width - l._k) l.rest) l.self ≡ sent (low_bits l.width l.value) l.initial.self
