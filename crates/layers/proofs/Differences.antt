@@ -1,5 +1,5 @@
 -- What NRZI keeps of the line below.
-use Rattle.std.proofs.Common.{◌≡◌, ℕ, zero, suc, ◌<◌, ◌≤◌, true, false, cond, eqb, List, [], ◌∷◌, ◌++◌, length, Some, None, Option, sym, refl, ap, ◌∙◌, ⊎_elim, arith}
+use Rattle.std.proofs.Common.{◌≡◌, ℕ, zero, suc, ◌<◌, ◌≤◌, true, false, cond, eqb, List, [], ◌∷◌, ◌++◌, length, Some, None, sym, refl, ap, ⊎_elim, arith}
 use Rattle.std.specs.List.{slice_get}
 use Rattle.std.proofs.lemmas.Bool.{cases_eq, eq-eqb, ne_eqb}
 use Rattle.layers.specs.Soundness.{decoded_length}
@@ -12,13 +12,6 @@ use Rattle.layers.proofs.Layered.{layer_answer, layer_after}
 pub newest_at : (p : ℕ) (xs : List ℕ) → slice_get (p ∷ xs) (length xs) ≡ Some (newest_level p xs)
 newest_at p [] = refl
 newest_at p (x ∷ xs) = newest_at x xs
-
-pub newest_there : (p : ℕ) (xs : List ℕ) (n : ℕ) (o : Option ℕ) → n ≡ length xs → o ≡ slice_get (p ∷ xs) n → o ≡ None → ⊥
-newest_there p xs n o e f g =
-    let a = newest_at p xs in
-    let b : ◌≡◌ {A = Option ℕ} None (Some (newest_level p xs)) = sym g ∙ f ∙ ap (slice_get (p ∷ xs)) e ∙ a in
-    let z : ◌≡◌ {A = ℕ} 0 1 = cc in
-    omega arith
 
 pub newest_low : (p : ℕ) (xs : List ℕ) → p < 2 → Levels xs → newest_level p xs < 2
 newest_low p [] l h = l
@@ -62,6 +55,8 @@ pub decoded_none_before : (p : ℕ) (xs : List ℕ) (k : ℕ) → slice_get (p �
 decoded_none_before p [] k e = refl
 decoded_none_before p (w ∷ xs) zero e = let z : ◌≡◌ {A = ℕ} 0 1 = cc in let b : ⊥ = omega arith in absurd b
 decoded_none_before p (w ∷ xs) (suc k) e = decoded_none_before w xs k e
+
+pub ruleset decoded_lemmas = (decoded_at, decoded_none, decoded_none_before)
 
 module _ (m : Meaning) (a l : ℕ) (h : Sound m) (low : l ≤ 1) where
   newest_is : newest_level m.last m.waiting < 2

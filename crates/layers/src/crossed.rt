@@ -1,12 +1,14 @@
 // A pair of wires crossed over: every level of the line below, inverted.
-ghost use Rattle.std.specs.Prelude.{◌≡◌, ◌≤◌};
+ghost use Rattle.std.specs.Prelude.{◌≡◌};
 ghost use Rattle.layers.specs.Layers.{crossed, inverted};
 ghost use Rattle.layers.specs.Soundness.{crossed_sound};
 
+use crate::invert;
 use line::Line;
 use refusal::Refusal;
 
 /// The crossed pair over any line.
+// No model: the clauses speak of the line below, which a view would have to keep.
 #[derive(Drop)]
 pub struct Crossed<L> {
     below: L,
@@ -21,14 +23,6 @@ impl<L: Line> Crossed<L> {
     }
 }
 
-// The other level.
-fn invert(level: u8) -> u8
-    requires { level ≤ 1 }
-    ensures { result ≡ inverted level }
-{
-    1 - level
-}
-
 impl<L: Line> Line for Crossed<L> {
     ghost meaning = { λ s. crossed (L.Line.meaning s.below) };
 
@@ -38,6 +32,7 @@ impl<L: Line> Line for Crossed<L> {
 
     ghost written = { λ s level. L.Line.written s.below (inverted level) };
 
+    #[tactic(auto, using(crate::proofs::Crossing::crossed_lemmas))]
     fn put(&mut self, level: u8) -> Result<u8, Refusal> {
         if level > 1 {
             return Err(Refusal::LevelAboveOne);
@@ -46,10 +41,10 @@ impl<L: Line> Line for Crossed<L> {
     }
 
     fn take(&mut self) -> Result<u8, Refusal> {
-        let level = self.below.take()?;
-        Ok(invert(level))
+        self.below.take().map(invert)
     }
 
+    #[tactic(auto, using(crate::proofs::Crossing::crossed_lemmas))]
     fn count(&self) -> usize {
         self.below.count()
     }
@@ -63,7 +58,6 @@ impl<L: Line> Line for Crossed<L> {
     }
 
     fn level_at(&self, k: usize) -> Option<u8> {
-        let level = self.below.level_at(k)?;
-        Some(invert(level))
+        self.below.level_at(k).map(invert)
     }
 }

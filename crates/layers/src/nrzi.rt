@@ -7,25 +7,16 @@ ghost use Rattle.line.specs.Meaning.{if_accepted, put_answer, put_after, take_an
 ghost use Rattle.layers.specs.Soundness.{nrzi_sound};
 ghost use Rattle.std.specs.List.{slice_get};
 
+use crate::invert;
 use line::Line;
 use refusal::Refusal;
 
 /// NRZI over any line, and the level that it answered last.
+// No model: the clauses speak of the line below, which a view would have to keep.
 #[derive(Drop)]
 pub struct Nrzi<L> {
     below: L,
     answered: bool,
-}
-
-// NRZI as it is made.
-fn made<L: Line>(below: L) -> Nrzi<L>
-    ensures below { result.below ≡ below }
-    ensures answered { result.answered ≡ true }
-{
-    Nrzi {
-        below,
-        answered: true,
-    }
 }
 
 impl<L: Line> Nrzi<L> {
@@ -36,7 +27,10 @@ impl<L: Line> Nrzi<L> {
         ensures rule { NrziRule }
         ensures example { NrziExample }
     {
-        made(below)
+        Nrzi {
+            below,
+            answered: true,
+        }
     }
 }
 
@@ -52,20 +46,18 @@ fn level_before<L: Line>(line: &L, k: usize) -> Option<u8>
 }
 
 // The newest level: the last that waits, else the level last taken.
+#[tactic(auto, using(crate::proofs::Differences::newest_at))]
 fn newest<L: Line>(line: &L) -> u8
     ensures { result ≡ newest_level (L.Line.meaning line.now).last (L.Line.meaning line.now).waiting }
 {
-    match level_before(line, line.count()) {
-        Some(level) => level,
-        None => unreachable(),
-    }
+    level_before(line, line.count()).unwrap()
 }
 
 // 1 if the level is the one before it.
 fn decode(before: u8, level: u8) -> u8
     ensures { result ≡ decoded before level }
 {
-    if before == level { 1 } else { 0 }
+    u8::from(before == level)
 }
 
 // The level before for 1, and the other for 0.
@@ -73,7 +65,7 @@ fn encode(before: u8, level: u8) -> u8
     requires { before ≤ 1 }
     ensures { result ≡ encoded before level }
 {
-    if level == 1 { before } else { 1 - before }
+    if level == 1 { before } else { invert(before) }
 }
 
 impl<L: Line> Line for Nrzi<L> {
@@ -89,7 +81,9 @@ impl<L: Line> Line for Nrzi<L> {
     fn put(&mut self, level: u8) -> Result<u8, Refusal>
         ensures answer { result ≡ put_answer (nrzi_meaning L.Line.meaning self.old) level }
         ensures after { nrzi_meaning L.Line.meaning self.new ≡ put_after (nrzi_meaning L.Line.meaning self.old) level }
-        ensures stored { L.Line.memory self.new.below ≡ if_accepted (put_answer (nrzi_meaning L.Line.meaning self.old) level) (L.Line.written self.old.below (encoded_on (L.Line.meaning self.old.below) level)) (L.Line.memory self.old.below) }
+        ensures stored { L.Line.memory self.new.below
+            ≡ if_accepted (put_answer (nrzi_meaning L.Line.meaning self.old) level)
+            (L.Line.written self.old.below (encoded_on (L.Line.meaning self.old.below) level)) (L.Line.memory self.old.below) }
         ensures below { L.Line.meaning self.new.below ≡ nrzi_put_below (L.Line.meaning self.old.below) level }
     {
         if level > 1 {
@@ -111,6 +105,7 @@ impl<L: Line> Line for Nrzi<L> {
         Ok(decode(before, level))
     }
 
+    #[tactic(auto, using(crate::specs::Soundness::decoded_length))]
     fn count(&self) -> usize {
         self.below.count()
     }
@@ -123,6 +118,7 @@ impl<L: Line> Line for Nrzi<L> {
         u8::from(self.answered)
     }
 
+    #[tactic(auto, using(crate::proofs::Differences::decoded_lemmas))]
     fn level_at(&self, k: usize) -> Option<u8> {
         let level = self.below.level_at(k)?;
         let before = level_before(&self.below, k)?;
