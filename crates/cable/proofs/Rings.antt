@@ -1,16 +1,17 @@
 -- The places of a ring, and what a cable's two changes leave of it.
-use Rattle.std.proofs.Common.{◌≡◌, ℕ, ◌+◌, ◌-◌, ◌%◌, ◌<◌, ◌≤◌, min, Bool, eqb, ◌≢◌, ◌⊎◌, List, [], ◌∷◌, length, get_or, set, Ok, sym, refl, ap, ◌∙◌, inl, inr, ⊎_elim, add_assoc, mod-lt, mod-eq_of_lt, arith}
+use Rattle.std.proofs.Common.{◌≡◌, ℕ, ◌+◌, ◌-◌, ◌%◌, ◌<◌, ◌≤◌, min, Bool, eqb, ◌≢◌, ◌⊎◌, List, [], ◌∷◌, length, get_or, set, Ok, sym, ap, ◌∙◌, inl, inr, ⊎_elim, add_assoc, mod-lt, mod-eq_of_lt, arith}
 use native.Mathlib.Nat.{mod-eq-sub-mod, mod-add-mod}
 use Rattle.std.proofs.lemmas.List.{get_or-set_same, get_or-set_other, length-set}
 use Rattle.std.proofs.lemmas.Bool.{cases_lt}
-use Rattle.cable.specs.Cables.{cable_meaning, cable_memory, cable_written, ring, cable_of, places_over, next_of}
-use Rattle.cable.specs.Stages.{taken_places, Stored, Freed}
+use Rattle.cable.specs.Cables.{ring, ring_written, cable_of, places_over, next_of}
 use Rattle.line.specs.Kinds.{line_of}
 use Rattle.line.specs.Levels.{level_of}
 use Rattle.line.specs.Meaning.{Memory, appended, take_answer, take_after}
-use Rattle.cable.specs.declared.Cable.{Cable}
 use Rattle.line.proofs.Counting.{line_appended, take_some}
 use Rattle.line.proofs.Flags.{flag_of}
+
+abbrev kept : List ℕ → ℕ → ℕ → Memory
+kept bytes next borrow = record { bytes = bytes; next = next; borrows = borrow ∷ [] }
 
 -- i modulo p, below twice p
 wrap : (i p : ℕ) → i < p + p → ((i < p) × (i % p ≡ i)) ⊎ ((p ≤ i) × (i % p + p ≡ i))
@@ -52,10 +53,9 @@ module _ (bytes : List ℕ) (p first n l : ℕ) (b : n < p) (w : p ≤ length by
       ap (λ x. x % 2) (get_or-set_same bytes ((first + n) % p) l 0 (omega arith)) ∙ mod-eq_of_lt {n = l} {m = 2} (omega arith)
 
 -- a take moves each level one place on
-ring_down : (bytes : List ℕ) (p first k : ℕ) → ring bytes p first (1 + k) ≡ ring bytes p ((first % p + 1) % p) k
+ring_down : (bytes : List ℕ) (p first k : ℕ) → ring bytes p first (1 + k) ≡ ring bytes p ((first + 1) % p) k
 ring_down bytes p first k =
-    let e : (first + (1 + k)) % p ≡ ((first % p + 1) % p + k) % p =
-    ap (λ i. i % p) (sym (add_assoc first 1 k)) ∙ sym (mod-add-mod (first + 1) p k) ∙ ap (λ i. (i + k) % p) (sym (place_is p first 1)) in
+    let e : (first + (1 + k)) % p ≡ ((first + 1) % p + k) % p = ap (λ i. i % p) (sym (add_assoc first 1 k)) ∙ sym (mod-add-mod (first + 1) p k) in
     ap (λ i. get_or bytes i 0 % 2) e
 
 -- a cable from its parts, with p places and n levels
@@ -69,102 +69,57 @@ module _ (bytes : List ℕ) (first count : ℕ) (last : Bool) (p n : ℕ) (e : p
 
 -- a cable with one level more
 module _ (bytes : List ℕ) (first n l : ℕ) (last : Bool) (p count : ℕ) (e : places_over (length bytes) ≡ p) (f : min count p ≡ n) (low : l ≤ 1) (room : n < p) where
-  still : places_over (length (set bytes ((first % p + n) % p) l)) ≡ p
-  still = ap places_over (length-set bytes ((first % p + n) % p) l) ∙ e
+  still : places_over (length (set bytes ((first + n) % p) l)) ≡ p
+  still = ap places_over (length-set bytes ((first + n) % p) l) ∙ e
 
   grown : min (n + 1) p ≡ n + 1
   grown = omega arith
 
-  more : cable_of (set bytes ((first % p + n) % p) l) first (n + 1) last ≡ appended (cable_of bytes first count last) l
+  pub more : cable_of (set bytes ((first + n) % p) l) first (n + 1) last ≡ appended (cable_of bytes first count last) l
   more =
       let w : p ≤ length bytes = omega arith in
-      cable_is (set bytes ((first % p + n) % p) l) first (n + 1) last p (n + 1) still grown
-      ∙ ap (λ i. line_of p (level_of last) (ring (set bytes i l) p first) (n + 1)) (place_is p first n)
+      cable_is (set bytes ((first + n) % p) l) first (n + 1) last p (n + 1) still grown
       ∙ line_appended p (level_of last) n l (ring bytes p first) (ring (set bytes ((first + n) % p) l) p first)
       (ring_kept bytes p first n l room w) (ring_added bytes p first n l room w low)
       ∙ ap (λ m. appended m l) (sym (cable_is bytes first count last p n e f))
 
-  more_bytes : set bytes ((first % p + n) % p) l ≡ set bytes (next_of bytes first count) l
-  more_bytes = ap (λ i. set bytes i l) (place_is p first n ∙ sym (next_is bytes first count last p n e f))
-
-  more_next : next_of (set bytes ((first % p + n) % p) l) first (n + 1) ≡ (next_of bytes first count + 1) % p
+  more_next : next_of (set bytes ((first + n) % p) l) first (n + 1) ≡ (next_of bytes first count + 1) % p
   more_next =
-      next_is (set bytes ((first % p + n) % p) l) first (n + 1) last p (n + 1) still grown
+      next_is (set bytes ((first + n) % p) l) first (n + 1) last p (n + 1) still grown
       ∙ ap (λ i. i % p) (sym (add_assoc first n 1)) ∙ sym (mod-add-mod (first + n) p 1)
       ∙ ap (λ i. (i + 1) % p) (sym (next_is bytes first count last p n e f))
+
+  pub more_memory : (borrow : ℕ) → kept (set bytes ((first + n) % p) l) (next_of (set bytes ((first + n) % p) l) first (n + 1)) borrow
+      ≡ ring_written p (kept bytes (next_of bytes first count) borrow) l
+  more_memory borrow =
+      let at = sym (next_is bytes first count last p n e f) in
+      λ i. kept (set bytes (at i) l) (more_next i) borrow
 
 -- a cable with one level less
 module _ (bytes : List ℕ) (first n : ℕ) (last : Bool) (p count : ℕ) (e : places_over (length bytes) ≡ p) (f : min count p ≡ n) (some : 0 < n) where
   less : min (n - 1) p ≡ n - 1
   less = omega arith
 
-  oldest_is : ring bytes p first 0 ≡ get_or bytes ((first % p + 0) % p) 0 % 2
-  oldest_is = ap (λ i. get_or bytes i 0 % 2) (sym (place_is p first 0))
-
-  fewer :
-      (Ok (get_or bytes ((first % p + 0) % p) 0 % 2) ≡ take_answer (cable_of bytes first count last))
-      × (cable_of bytes ((first % p + 1) % p) (n - 1) (eqb (get_or bytes ((first % p + 0) % p) 0 % 2) 1) ≡ take_after (cable_of bytes first count last))
+  pub fewer :
+      (Ok (get_or bytes ((first + 0) % p) 0 % 2) ≡ take_answer (cable_of bytes first count last))
+      × (cable_of bytes ((first + 1) % p) (n - 1) (eqb (get_or bytes ((first + 0) % p) 0 % 2) 1) ≡ take_after (cable_of bytes first count last))
   fewer =
       let q = cable_is bytes first count last p n e f in
-      let x = get_or bytes ((first % p + 0) % p) 0 % 2 in
+      let x = get_or bytes ((first + 0) % p) 0 % 2 in
       let whole : n ≡ n - 1 + 1 = omega arith in
-      let a = take_some p (level_of last) n (n - 1) (ring bytes p first) (ring bytes p ((first % p + 1) % p)) whole (λ k _. ring_down bytes p first k) in (
-        ap Ok (sym oldest_is) ∙ a.0 ∙ ap take_answer (sym q),
-        cable_is bytes ((first % p + 1) % p) (n - 1) (eqb x 1) p (n - 1) e less
-            ∙ ap (λ y. line_of p y (ring bytes p ((first % p + 1) % p)) (n - 1)) (flag_of x (omega arith) ∙ sym oldest_is)
+      let a = take_some p (level_of last) n (n - 1) (ring bytes p first) (ring bytes p ((first + 1) % p)) whole (λ k _. ring_down bytes p first k) in (
+        a.0 ∙ ap take_answer (sym q),
+        cable_is bytes ((first + 1) % p) (n - 1) (eqb x 1) p (n - 1) e less
+            ∙ ap (λ y. line_of p y (ring bytes p ((first + 1) % p)) (n - 1)) (flag_of x (omega arith))
             ∙ a.1 ∙ ap take_after (sym q),
       )
 
-  same_next : next_of bytes ((first % p + 1) % p) (n - 1) ≡ next_of bytes first count
+  same_next : next_of bytes ((first + 1) % p) (n - 1) ≡ next_of bytes first count
   same_next =
       let sum : first + 1 + (n - 1) ≡ first + n = omega arith in
-      next_is bytes ((first % p + 1) % p) (n - 1) last p (n - 1) e less
-      ∙ ap (λ i. (i + (n - 1)) % p) (place_is p first 1) ∙ mod-add-mod (first + 1) p (n - 1) ∙ ap (λ i. i % p) sum
+      next_is bytes ((first + 1) % p) (n - 1) last p (n - 1) e less
+      ∙ mod-add-mod (first + 1) p (n - 1) ∙ ap (λ i. i % p) sum
       ∙ sym (next_is bytes first count last p n e f)
 
--- equal parts make equal cables
-cable_same : {b c : List ℕ} {f g n m : ℕ} {x y : Bool} → b ≡ c → f ≡ g → n ≡ m → x ≡ y → cable_of b f n x ≡ cable_of c g m y
-cable_same {b} {c} {f} {g} {n} {m} {x} {y} p q r s =
-    ap (λ v. cable_of v f n x) p ∙ ap (λ v. cable_of c v n x) q ∙ ap (λ v. cable_of c g v x) r ∙ ap (cable_of c g m) s
-
-next_same : {b c : List ℕ} {f g n m : ℕ} → b ≡ c → f ≡ g → n ≡ m → next_of b f n ≡ next_of c g m
-next_same {b} {c} {f} {g} {n} {m} p q r = ap (λ v. next_of v f n) p ∙ ap (λ v. next_of c v n) q ∙ ap (next_of c g) r
-
-memory_same : {b c : List ℕ} {n m g h : ℕ} → b ≡ c → n ≡ m → g ≡ h → ◌≡◌ {A = Memory} (record { bytes = b; next = n; borrows = g ∷ [] }) (record { bytes = c; next = m; borrows = h ∷ [] })
-memory_same {b} {c} {n} {m} {g} {h} p q r =
-    ap (λ v. record { bytes = v; next = n; borrows = g ∷ [] }) p
-    ∙ ap (λ v. record { bytes = c; next = v; borrows = g ∷ [] }) q
-    ∙ ap (λ v. record { bytes = c; next = m; borrows = v ∷ [] }) r
-
--- the code's own cable with one level more
-module _ (s t : Cable) (l : ℕ) (low : l ≤ 1) (room : taken_places s < places_over (length s.bytes.now)) (h : Stored s l t) where
-  pub stored_meaning : cable_meaning t ≡ appended (cable_meaning s) l
-  stored_meaning =
-      cable_same h.bytes h.first h.count h.last
-      ∙ more s.bytes.now s.first (taken_places s) l s.last (places_over (length s.bytes.now)) s.count refl refl low room
-
-  pub stored_memory : cable_memory t ≡ cable_written s l
-  stored_memory =
-      memory_same
-      (h.bytes ∙ more_bytes s.bytes.now s.first (taken_places s) l s.last (places_over (length s.bytes.now)) s.count refl refl low room)
-      (next_same h.bytes h.first h.count
-      ∙ more_next s.bytes.now s.first (taken_places s) l s.last (places_over (length s.bytes.now)) s.count refl refl low room)
-      h.borrow
-
--- and with one less
-module _ (s t : Cable) (l : ℕ) (some : 0 < taken_places s) (h : Freed s l t) where
-  pub freed_answer : Ok l ≡ take_answer (cable_meaning s)
-  freed_answer =
-      ap Ok h.answer ∙ (fewer s.bytes.now s.first (taken_places s) s.last (places_over (length s.bytes.now)) s.count refl refl some).0
-
-  pub freed_meaning : cable_meaning t ≡ take_after (cable_meaning s)
-  freed_meaning =
-      cable_same h.bytes h.first h.count (h.last ∙ ap (λ x. eqb x 1) h.answer)
-      ∙ (fewer s.bytes.now s.first (taken_places s) s.last (places_over (length s.bytes.now)) s.count refl refl some).1
-
-  pub freed_memory : cable_memory t ≡ cable_memory s
-  freed_memory =
-      memory_same h.bytes
-      (next_same h.bytes h.first h.count
-      ∙ same_next s.bytes.now s.first (taken_places s) s.last (places_over (length s.bytes.now)) s.count refl refl some)
-      h.borrow
+  pub fewer_memory : (borrow : ℕ) → kept bytes (next_of bytes ((first + 1) % p) (n - 1)) borrow ≡ kept bytes (next_of bytes first count) borrow
+  fewer_memory borrow i = kept bytes (same_next i) borrow

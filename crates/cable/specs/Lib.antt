@@ -1,4 +1,3 @@
 pub mod Cables
 pub mod Soundness
-pub mod Stages
 pub mod Bytes

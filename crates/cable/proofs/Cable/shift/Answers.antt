@@ -1,16 +1,19 @@
-use Rattle.std.proofs.Common.{◌<◌, subst}
+use Rattle.std.proofs.Common.{◌≡◌, ◌<◌, min, sym, ap, ◌∙◌, arith}
 use Rattle.line.specs.Soundness.{length_counted}
-use Rattle.cable.proofs.Rings.{freed_answer, freed_meaning, freed_memory}
+use Rattle.cable.proofs.Rings.{fewer, fewer_memory}
 use Rattle.cable.proofs.Cable.shift.Goals as goal
-
-pub free-requires : goal.free-requires
-free-requires c = subst (λ n. 0 < n) (length_counted _ _) c.requires
 
 pub returns : goal.returns
 returns c =
-    let some = subst (λ n. 0 < n) (length_counted _ _) c.requires in
+    let s = c.args.self.now in
+    let n = c.count.result in
+    let p = c.places-places.result in
+    let e = sym c.places-places.ensures in
+    let f : min s.count p ≡ n = ap (min s.count) c.places-places.ensures ∙ sym (length_counted _ _) ∙ sym c.count.ensures in
+    let some : 0 < n = omega arith in
+    let less = fewer s.bytes.now s.first n s.last p s.count e f some in
     record {
-      answer = freed_answer c.args.self.now c.free.new.self c.free.result some c.free.ensures;
-      meaning = freed_meaning c.args.self.now c.free.new.self c.free.result some c.free.ensures;
-      memory = freed_memory c.args.self.now c.free.new.self c.free.result some c.free.ensures;
+      answer = rw c.byte_on.ensures less.0;
+      meaning = rw (c.byte_on.ensures, c.byte_on-self.ensures) less.1;
+      memory = rw c.byte_on-self.ensures (fewer_memory s.bytes.now s.first n s.last p s.count e f some s.bytes.ghost_name);
     }
