@@ -48,8 +48,8 @@ impl Error for Failure {}
 impl From<AllocError> for Failure {
     ghost from_gives = { λ _ failure. failure ≡ Memory };
 
-    fn from(_e: AllocError) -> Failure {
-        Failure::Memory
+    fn from(_e: AllocError) -> Self {
+        Self::Memory
     }
 }
 
