@@ -127,6 +127,7 @@ impl<'a> Line for Cable<'a> {
         Ok(self.shift())
     }
 
+    #[tactic(auto, using(line::specs::Soundness::length_counted))]
     fn count(&self) -> usize {
         self.count.min(self.places())
     }
@@ -139,6 +140,7 @@ impl<'a> Line for Cable<'a> {
         u8::from(self.last)
     }
 
+    #[tactic(auto, using(line::specs::Soundness::length_counted, line::proofs::Counting::counted_at))]
     fn level_at(&self, k: usize) -> Option<u8> {
         if k >= self.count() {
             return None;

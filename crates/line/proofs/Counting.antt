@@ -6,7 +6,7 @@ use Rattle.std.proofs.lemmas.List.{ext_get_or}
 use Rattle.std.proofs.lemmas.Option.{slice_get-get_or, slice_get_past}
 use Rattle.line.specs.Soundness.{length_counted, get_or_counted}
 use Rattle.line.specs.Kinds.{counted, line_of}
-use Rattle.line.specs.Meaning.{Meaning, if_accepted, oldest, latest, left_over, appended, put_answer, put_after, take_answer, take_after}
+use Rattle.line.specs.Meaning.{oldest, latest, left_over, appended, take_answer, take_after}
 
 from_places : (f g : ℕ → ℕ) (a b n : ℕ) → ((k : ℕ) → k < n → f (a + k) ≡ g (b + k)) → map f (range_with_len a n) ≡ map g (range_with_len b n)
 from_places f g a b n h =
@@ -43,10 +43,6 @@ counted_past f n k h = let e = length_counted f n in slice_get_past (counted f n
 pub line_appended : (p last n l : ℕ) (f g : ℕ → ℕ) → ((k : ℕ) → k < n → f k ≡ g k) → g n ≡ l → line_of p last g (n + 1) ≡ appended (line_of p last f n) l
 line_appended p last n l f g same new =
     ap (λ xs. record { places = p; last = last; waiting = xs }) (counted_push f g n l same new)
-
--- what an accepted put leaves
-pub put_done : (m new : Meaning) (l a : ℕ) → Ok a ≡ put_answer m l → new ≡ appended m l → new ≡ put_after m l
-put_done m new l a e h = h ∙ ap (λ r. if_accepted r (appended m l) m) e
 
 pub take_some : (p last n m : ℕ) (f g : ℕ → ℕ) → n ≡ m + 1 → ((k : ℕ) → k < m → f (1 + k) ≡ g k) → (Ok (f 0) ≡ take_answer (line_of p last f n)) × (line_of p (f 0) g m ≡ take_after (line_of p last f n))
 take_some p last n m f g e same =

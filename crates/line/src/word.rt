@@ -66,6 +66,7 @@ impl Line for Word {
 
     ghost written = { λ _ _. no_memory };
 
+    #[tactic(auto, using(crate::proofs::Shifting::raised_word))]
     fn put(&mut self, level: u8) -> Result<u8, Refusal> {
         let answer = admit(level, self.count(), self.places())?;
         self.levels = joined(self.levels, self.count, level);
@@ -73,6 +74,7 @@ impl Line for Word {
         Ok(answer)
     }
 
+    #[tactic(auto, using(crate::proofs::Shifting::half_clear, crate::proofs::Shifting::halved_word))]
     fn take(&mut self) -> Result<u8, Refusal> {
         if self.count == 0 {
             return Err(Refusal::LineEmpty);
@@ -83,6 +85,7 @@ impl Line for Word {
         Ok(u8::from(self.last))
     }
 
+    #[tactic(auto, using(crate::specs::Soundness::length_counted))]
     fn count(&self) -> usize {
         self.count
     }
@@ -95,6 +98,7 @@ impl Line for Word {
         u8::from(self.last)
     }
 
+    #[tactic(auto, using(crate::proofs::Counting::counted_at, crate::proofs::Counting::counted_past))]
     fn level_at(&self, k: usize) -> Option<u8> {
         if k >= self.count {
             return None;
