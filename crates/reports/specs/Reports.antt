@@ -20,45 +20,41 @@ abbrev pub match_text : List ℕ → List ℕ
 match_text bytes =
     cond (matches (byte_bits bytes)) (codes "yes") (codes "no")
 
-abbrev pub check_lines : (hex : List ℕ) → (number : ℕ) → (line : List ℕ) → (matching : List ℕ) → List ℕ
-check_lines hex number line matching =
-    codes "bytes: " ++ (hex ++ (10 ∷ codes "number of bytes: " ++ (decimal number ++ (10 ∷ (line ++ (codes "match: " ++ (matching ++ 10 ∷ [])))))))
-
 -- what `check` tells
 abbrev pub check_told : List ℕ → List ℕ
-check_told bytes = check_lines (hex_or_none bytes) (length bytes) (sequence_line (check_sequence bytes)) (match_text bytes)
-
-abbrev pub encode_lines : (hex : List ℕ) → (line : List ℕ) → (number : ℕ) → (text : List ℕ) → List ℕ
-encode_lines hex line number text =
-    codes "bytes: " ++ (hex ++ (10 ∷ (line ++ (codes "number of line bits: " ++ (decimal number ++ (10 ∷ (text ++ 10 ∷ [])))))))
+check_told bytes =
+    codes "bytes: " ++ (hex_or_none bytes ++ (10 ∷ codes "number of bytes: " ++ (decimal (length bytes)
+    ++ (10 ∷ (sequence_line (check_sequence bytes) ++ (codes "match: " ++ (match_text bytes ++ 10 ∷ [])))))))
 
 -- what is told of bytes and line bits
 abbrev pub frame_told : List ℕ → List Bool → List ℕ
-frame_told bytes bits = encode_lines (hex_or_none bytes) (sequence_line (check_sequence bytes)) (length bits) (bit_text bits)
+frame_told bytes bits =
+    codes "bytes: " ++ (hex_or_none bytes ++ (10 ∷ (sequence_line (check_sequence bytes)
+    ++ (codes "number of line bits: " ++ (decimal (length bits) ++ (10 ∷ (bit_text bits ++ 10 ∷ [])))))))
 
 -- what `encode` tells
 abbrev pub encode_told : List ℕ → List ℕ
 encode_told bytes = frame_told bytes (frame_bits bytes)
 
-abbrev pub stretch_words : (number : ℕ) → (word : List ℕ) → (n : ℕ) → (content : List ℕ) → List ℕ
-stretch_words number word n content =
-    codes "stretch " ++ (decimal number ++ (codes ": " ++ (word ++ (codes ", " ++ (decimal n ++ (codes " bits, content " ++ (content ++ 10 ∷ [])))))))
-
 -- the stretch at a place, counted from 0
 abbrev pub stretch_line : ℕ → Judgement → List ℕ
-stretch_line place j = stretch_words (place + 1) (verdict_word j.verdict) j.n (hex_or_none j.content)
+stretch_line place j =
+    codes "stretch " ++ (decimal (place + 1) ++ (codes ": " ++ (verdict_word j.verdict ++ (codes ", " ++ (decimal j.n
+    ++ (codes " bits, content " ++ (hex_or_none j.content ++ 10 ∷ [])))))))
 
 abbrev pub stretch_lines : ℕ → List Judgement → List ℕ
 stretch_lines place [] = []
 stretch_lines place (j ∷ js) = stretch_line place j ++ stretch_lines (place + 1) js
 
-abbrev pub summary_lines : (bits stretches good : ℕ) → List ℕ
-summary_lines bits stretches good =
-    codes "line bits: " ++ (decimal bits ++ (10 ∷ codes "stretches: " ++ (decimal stretches ++ (10 ∷ codes "good frames: " ++ (decimal good ++ 10 ∷ [])))))
+-- how many line bits, stretches and good frames there are
+abbrev pub summary_lines : (bits : ℕ) → List Judgement → List ℕ
+summary_lines bits js =
+    codes "line bits: " ++ (decimal bits ++ (10 ∷ codes "stretches: " ++ (decimal (length js)
+    ++ (10 ∷ codes "good frames: " ++ (decimal (length (good_contents js)) ++ 10 ∷ [])))))
 
 -- what is told of the stretches in a number of line bits
 abbrev pub stretches_told : ℕ → List Judgement → List ℕ
-stretches_told bits js = stretch_lines 0 js ++ summary_lines bits (length js) (length (good_contents js))
+stretches_told bits js = stretch_lines 0 js ++ summary_lines bits js
 
 -- what `read` tells of line bits
 abbrev pub read_told : List Bool → List ℕ

@@ -1,11 +1,10 @@
-use Rattle.std.proofs.Common.{map, length, ap, ◌∙◌}
-use Rattle.std.proofs.lemmas.Result.{IfOk-weaker}
-use Rattle.framing.specs.Reading.{as_read}
-use Rattle.reports.specs.Reports.{stretches_told}
+use Rattle.std.proofs.Common.{ap, ◌∙◌, rules}
+use Rattle.reports.specs.Reports.{hex_or_none}
+use Rattle.reports.proofs.Lines.{line_more}
 use Rattle.reports.proofs.read_report.Goals as goal
 
-pub returns : goal.returns
-returns c =
-    let bits = length c.args.bits.now in
-    let read = ap (map as_read) c.as_slice.ensures.value ∙ c.in_ok-stretches.ensures.stretches in
-    IfOk-weaker c.stretches_report.result _ _ (λ s h. h ∙ ap (stretches_told bits) read) c.stretches_report.ensures
+pub loop-i-preserved : goal.loop-i-preserved
+loop-i-preserved c =
+    let content = c.in_ok-content.ensures ∙ ap hex_or_none c.deref.ensures.value in
+    let line = rw content at c.in_ok-writeln.ensures.bytes in
+    line_more c.deref-stretch-items.result.now c.loop-i.i c.stretch-item.result _ _ _ (search rules) c.stretch-item.is line c.loop-i.invariant
