@@ -1,6 +1,6 @@
 // How many things were tried, and of how many something holds.
 
-#[derive(Default, Drop)]
+#[derive(Clone, Copy, Default)]
 pub(crate) struct Counts {
     pub(crate) tried: usize,
     pub(crate) hits: usize,

@@ -24,21 +24,16 @@ fn main(rt: HostRuntime) -> anyhow::Result<()> {
         "frames: {} sent, {} not read back as sent",
         frames.tried, frames.hits
     )?;
-    let whole = damage::none(heap)?;
-    println!(rt;
-        "nothing flipped: {} readings, {} good with as many bits",
-        whole.tried, whole.hits
-    )?;
-    let flips = damage::single_bits(heap)?;
-    println!(rt;
-        "one bit flipped: {} readings, {} good with as many bits",
-        flips.tried, flips.hits
-    )?;
-    let bursts = damage::bursts(heap)?;
-    println!(rt;
-        "bursts of up to 16 bits: {} readings, {} good with as many bits",
-        bursts.tried, bursts.hits
-    )?;
+    for (flipped, counts) in [
+        ("nothing flipped", damage::none(heap)?),
+        ("one bit flipped", damage::single_bits(heap)?),
+        ("bursts of up to 16 bits", damage::bursts(heap)?),
+    ] {
+        println!(rt;
+            "{flipped}: {} readings, {} good with as many bits",
+            counts.tried, counts.hits
+        )?;
+    }
     let bytes = damage::bytes(heap)?;
     println!(rt;
         "bursts in bytes with their check sequence: {} lists, {} that match",

@@ -208,11 +208,15 @@ fn check_reports(rt: HostRuntime) -> Result<(), Fail> {
 #[test]
 fn encode_reports(rt: HostRuntime) -> Result<(), Fail> {
     let heap = rt.alloc();
-    let told =
-        "bytes: 03 3F\ncheck sequence: EC5B, sent as 5B EC\nnumber of line bits: 49\n0111111011000000111110100110110100011011101111110\n";
+    let told = "bytes: 03 3F\n\
+         check sequence: EC5B, sent as 5B EC\n\
+         number of line bits: 49\n\
+         0111111011000000111110100110110100011011101111110\n";
     assert_eq!(rt; encode_report(heap, &[0x03, 0x3F])?.as_str(), told);
-    let told =
-        "bytes: none\ncheck sequence: 0000, sent as 00 00\nnumber of line bits: 32\n01111110000000000000000001111110\n";
+    let told = "bytes: none\n\
+         check sequence: 0000, sent as 00 00\n\
+         number of line bits: 32\n\
+         01111110000000000000000001111110\n";
     assert_eq!(rt; encode_report(heap, &[])?.as_str(), told);
     Ok(())
 }
@@ -224,12 +228,21 @@ const READINGS: [Case; 6] = [
     // a good frame, a flag that shares its 0 with the one before, and the frame with its last bit flipped
     Case(
         "01111110 11000000 111110100 11011010 00110111 01111110 1111110 11000000 111110100 11011010 00110110 01111110",
-        "stretch 1: good, 32 bits, content 03 3F\nstretch 2: ignored, 0 bits, content none\nstretch 3: bad, 32 bits, content 03 3F\nline bits: 97\nstretches: 3\ngood frames: 1\n",
+        "stretch 1: good, 32 bits, content 03 3F\n\
+         stretch 2: ignored, 0 bits, content none\n\
+         stretch 3: bad, 32 bits, content 03 3F\n\
+         line bits: 97\n\
+         stretches: 3\n\
+         good frames: 1\n",
     ),
     // 24 bits, and 25
     Case(
         "01111110 000000000000000000000000 01111110 0000000000000000000000001 01111110",
-        "stretch 1: ignored, 24 bits, content 00\nstretch 2: bad, 25 bits, content 00 00\nline bits: 73\nstretches: 2\ngood frames: 0\n",
+        "stretch 1: ignored, 24 bits, content 00\n\
+         stretch 2: bad, 25 bits, content 00 00\n\
+         line bits: 73\n\
+         stretches: 2\n\
+         good frames: 0\n",
     ),
     // an abort between two flags
     Case(

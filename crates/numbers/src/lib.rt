@@ -33,9 +33,9 @@ impl Numbers {
         ensures { self.new ≡ stepped self.old }
     {
         let x = self.state;
-        let x = x ^ x.wrapping_shl(13);
+        let x = x ^ (x << 13);
         let x = x ^ (x >> 7);
-        self.state = x ^ x.wrapping_shl(17);
+        self.state = x ^ (x << 17);
     }
 
     /// A number below the limit, or 0 where the limit is 0.
