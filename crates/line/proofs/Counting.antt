@@ -39,6 +39,8 @@ counted_at f n k h =
 pub counted_past : (f : ℕ → ℕ) (n k : ℕ) → n ≤ k → slice_get (counted f n) k ≡ None
 counted_past f n k h = let e = length_counted f n in slice_get_past (counted f n) k (omega arith)
 
+pub ruleset counted_lemmas = (counted_at, counted_past)
+
 -- what one put and one take do to a line that is given by its places
 pub line_appended : (p last n l : ℕ) (f g : ℕ → ℕ) → ((k : ℕ) → k < n → f k ≡ g k) → g n ≡ l → line_of p last g (n + 1) ≡ appended (line_of p last f n) l
 line_appended p last n l f g same new =

@@ -2,7 +2,7 @@
 use Rattle.std.proofs.Common.{◌≡◌, ℕ, ◌+◌, ◌-◌, ◌*◌, ◌/◌, ◌%◌, ◌^◌, ◌<◌, ◌≤◌, Bool, eqb, Ok, sym, ap, ◌∙◌, subst, mod-eq_of_lt, mul_assoc, add_comm, div-one, arith}
 use native.Mathlib.Nat.{add-mul-mod_self_right}
 use lib.Bits.{bit_or}
-use Rattle.std.proofs.lemmas.Nat.{pow-add, field_of, shr_high, shr-shr, shr_below, shl_whole}
+use Rattle.std.proofs.lemmas.Nat.{pow-add, field_of, shr_high, shr-shr, shr_below, shl_whole, mul-le}
 use Rattle.std.specs.Int.Bits.{or_shifted_r}
 use Rattle.line.specs.Kinds.{bit, line_of, word_of}
 use Rattle.line.specs.Levels.{level_of}
@@ -35,6 +35,15 @@ module _ (l n w : ℕ) (low : l ≤ 1) (clear : w < 2 ^ n) where
 pub merged : (w l n : ℕ) → l ≤ 1 → n < 64 → w < 2 ^ n → bit_or w (l * 2 ^ n % 2 ^ 64) ≡ l * 2 ^ n + w
 merged w l n low h clear = ap (bit_or w) (shl_whole l 1 n 64 (omega arith) (omega arith)) ∙ or_shifted_r l n w clear
 
+pub merged_clear : (w l n : ℕ) → l ≤ 1 → n < 64 → w < 2 ^ n → bit_or w (l * 2 ^ n % 2 ^ 64) < 2 ^ (n + 1)
+merged_clear w l n low h clear =
+    let e = merged w l n low h clear in
+    let p : 2 ^ (n + 1) ≡ 2 ^ n * 2 = pow-add 2 n 1 in
+    let z : l * 2 ^ n ≤ 1 * 2 ^ n = mul-le l (2 ^ n) 1 (2 ^ n) low (omega arith) in
+    omega arith
+
+pub ruleset put_lemmas = (merged, merged_clear, raised_word)
+
 bits_down : (w k : ℕ) → bit w (1 + k) ≡ bit (w / 2) k
 bits_down w k = sym (ap (λ x. x % 2) (shr-shr w 1 k))
 
@@ -53,3 +62,5 @@ halved_word w n last some =
     let whole : n ≡ n - 1 + 1 = omega arith in
     let a = take_some 64 (level_of last) n (n - 1) (bit w) (bit (w / 2)) whole (λ k _. bits_down w k) in
     (ap Ok low ∙ a.0, ap (λ x. line_of 64 x (bit (w / 2)) (n - 1)) low ∙ a.1)
+
+pub ruleset take_lemmas = (half_clear, halved_word)

@@ -1,5 +1,5 @@
 // A line of 64 places in one machine word.
-ghost use Rattle.std.specs.Prelude.{◌≡◌, ◌+◌, ◌*◌, ◌^◌, ◌<◌, ◌≤◌};
+ghost use Rattle.std.specs.Prelude.{◌≡◌, ◌≤◌};
 ghost use Rattle.line.specs.Meaning.{fresh, no_memory};
 
 use crate::{Line, admit};
@@ -48,15 +48,6 @@ impl Word {
     }
 }
 
-// The bits with one level more above `count` of them.
-#[tactic(auto, using(crate::proofs::Shifting::merged))]
-fn joined(levels: u64, count: usize, level: u8) -> u64
-    requires { (level ≤ 1) × (count < 64) × (levels < 2 ^ count) }
-    ensures { result ≡ level * 2 ^ count + levels }
-{
-    levels | (u64::from(level) << count)
-}
-
 impl Line for Word {
     ghost meaning = { λ s. s.meaning };
 
@@ -66,15 +57,15 @@ impl Line for Word {
 
     ghost written = { λ _ _. no_memory };
 
-    #[tactic(auto, using(crate::proofs::Shifting::raised_word))]
+    #[tactic(auto, using(crate::proofs::Shifting::put_lemmas))]
     fn put(&mut self, level: u8) -> Result<u8, Refusal> {
         let answer = admit(level, self.count(), self.places())?;
-        self.levels = joined(self.levels, self.count, level);
+        self.levels |= u64::from(level) << self.count;
         self.count += 1;
         Ok(answer)
     }
 
-    #[tactic(auto, using(crate::proofs::Shifting::half_clear, crate::proofs::Shifting::halved_word))]
+    #[tactic(auto, using(crate::proofs::Shifting::take_lemmas))]
     fn take(&mut self) -> Result<u8, Refusal> {
         if self.count == 0 {
             return Err(Refusal::LineEmpty);
@@ -98,7 +89,7 @@ impl Line for Word {
         u8::from(self.last)
     }
 
-    #[tactic(auto, using(crate::proofs::Counting::counted_at, crate::proofs::Counting::counted_past))]
+    #[tactic(auto, using(crate::proofs::Counting::counted_lemmas))]
     fn level_at(&self, k: usize) -> Option<u8> {
         if k >= self.count {
             return None;
