@@ -4,6 +4,3 @@ use Rattle.layers.proofs.nrzi.Nrzi.new.Goals as goal
 
 pub returns-clause-rule : goal.returns-clause-rule
 returns-clause-rule g c = nrzi_rule
-
-pub returns-clause-example : goal.returns-clause-example
-returns-clause-example g c = (refl, refl)
