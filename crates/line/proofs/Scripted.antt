@@ -1,6 +1,6 @@
 -- One more call of a script.
 use Rattle.std.proofs.Common.{◌≡◌, ℕ, zero, suc, ◌+◌, ◌<◌, ◌≤◌, min, List, [], ◌∷◌, ◌++◌, length, get_or, take, drop, set, sym, refl, ap, ◌∙◌, arith, length-take-le}
-use Rattle.std.proofs.lemmas.List.{take_more, take_more_set, drop-set-lt, drop-drop}
+use Rattle.std.proofs.lemmas.List.{take_more, take_more_set, drop-set-lt, drop-drop, get_or-take}
 use Rattle.line.specs.Histories.{Done, Event, events}
 use Rattle.line.specs.Histories.History.{then}
 use Rattle.line.specs.Meaning.{Answer}
@@ -31,18 +31,19 @@ module _ {C : Type 0} where
   events_front (c ∷ cs) (r ∷ rs) (suc n) h = ap (λ (l : List (Event C)). event c r ∷ l) (events_front cs rs n (omega arith))
 
   module _ {S : Type 0} {Step : S → C → Answer → S → Type 0} {start : S} (cs : List C) where
-    -- one call more was made
-    pub done_more : {now next : S} (rs all : List Answer) (n : ℕ) (d : C) (r : Answer) → n < length cs → n < length rs → all ≡ set rs n r
-        → Done Step start (take n cs) (take n rs) now → Step now (get_or cs n d) r next → Done Step start (take (n + 1) cs) (take (n + 1) all) next
-    done_more rs all n d r h k s past x = (
-      then past.0 (get_or cs n d) r x,
-      ap (λ (l : List (Event C)). l ++ event (get_or cs n d) r ∷ []) past.1 ∙ sym (events_more cs rs n d r h k) ∙ ap (λ (l : List Answer). events (take (n + 1) cs) (take (n + 1) l)) (sym s),
+    -- one of the first `most` calls more was made
+    pub done_more : {now next : S} (rs : List Answer) (most n : ℕ) (d : C) (r : Answer) → n < most → n < length cs → n < length rs
+        → Done Step start (take n cs) (take n rs) now → Step now (get_or (take most cs) n d) r next
+        → Done Step start (take (n + 1) cs) (take (n + 1) (set rs n r)) next
+    done_more rs most n d r m h k past x = (
+      then past.0 (get_or cs n d) r (rw get_or-take at x),
+      ap (λ (l : List (Event C)). l ++ event (get_or cs n d) r ∷ []) past.1 ∙ sym (events_more cs rs n d r h k),
     )
 
     pub whole_done : {end : S} (rs : List Answer) (n : ℕ) → min (length cs) (length rs) ≤ n → Done Step start (take n cs) (take n rs) end → Done Step start cs rs end
     whole_done rs n h past = (past.0, past.1 ∙ events_front cs rs n h)
 
 -- the answers that no call has reached yet stand
-pub rest_done : (rs all old : List Answer) (n : ℕ) (r : Answer) → all ≡ set rs n r → drop n rs ≡ drop n old → drop (n + 1) all ≡ drop (n + 1) old
-rest_done rs all old n r s e =
-    ap (drop (n + 1)) s ∙ drop-set-lt (n + 1) rs n r (omega arith) ∙ sym (drop-drop 1 n rs) ∙ ap (drop 1) e ∙ drop-drop 1 n old
+pub rest_done : (rs old : List Answer) (n : ℕ) (r : Answer) → drop n rs ≡ drop n old → drop (n + 1) (set rs n r) ≡ drop (n + 1) old
+rest_done rs old n r e =
+    drop-set-lt (n + 1) rs n r (omega arith) ∙ sym (drop-drop 1 n rs) ∙ ap (drop 1) e ∙ drop-drop 1 n old

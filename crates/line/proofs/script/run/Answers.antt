@@ -1,4 +1,5 @@
-use Rattle.std.proofs.Common.{◌≡◌, drop, refl, subst, arith}
+use Rattle.std.proofs.Common.{◌≡◌, ◌<◌, drop, refl, subst, arith}
+use Rattle.std.proofs.lemmas.List.{length-take}
 use Rattle.line.specs.Histories.History.{none}
 use Rattle.line.proofs.Carried.{always_carries}
 use Rattle.line.proofs.Scripted.{done_more, rest_done, whole_done}
@@ -11,14 +12,16 @@ pub loop-n-preserved : goal.loop-n-preserved
 loop-n-preserved g c =
     let n = c.loop-n.n in
     let rs = c.loop-n.answers in
+    let most = c.min-most.result in
+    let below : n < most = omega (arith, length-take most c.args.acts.now) in
     record {
-      done = done_more c.args.acts.now rs _ n _ _ (omega arith) (omega arith) c.perform_at.ensures.noted c.loop-n.invariant.done c.perform_at.ensures.happens;
-      rest = rest_done rs _ c.args.answers.now n _ c.perform_at.ensures.noted c.loop-n.invariant.rest;
+      done = done_more c.args.acts.now rs most n _ _ below (omega arith) (omega arith) c.loop-n.invariant.done c.perform.ensures;
+      rest = rest_done rs c.args.answers.now n _ c.loop-n.invariant.rest;
     }
 
 pub returns : goal.returns
 returns g c =
-    let all : c.loop-n.n ≡ c.min-most.result = omega arith in
+    let all : c.loop-n.n ≡ c.min-most.result = omega (arith, length-take c.min-most.result c.args.acts.now) in
     record {
       count = c.min-most.ensures;
       done = whole_done c.args.acts.now c.loop-n.answers c.loop-n.n (omega arith) c.loop-n.invariant.done;
