@@ -37,10 +37,15 @@ impl Deleter {
     fn bit(&mut self, bit: bool) -> Result<(), AllocError>
         ensures { OnOk result (self.new ≡ kept_bit self.old bit) }
     {
-        if bit || self.run != 5 {
-            self.bits.push(bit)?;
+        if bit {
+            self.bits.push(true)?;
+            self.run = (self.run + 1).min(5);
+            return Ok(());
         }
-        self.run = if bit { (self.run + 1).min(5) } else { 0 };
+        if self.run != 5 {
+            self.bits.push(false)?;
+        }
+        self.run = 0;
         Ok(())
     }
 }
