@@ -5,3 +5,4 @@ pub mod Residue
 pub mod Table
 pub mod Steps
 pub mod Spelt
+pub mod Words

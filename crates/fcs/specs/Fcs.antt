@@ -1,7 +1,8 @@
 -- The 16-bit frame check sequence (FCS) of ISO/IEC 13239 and RFC 1662.
 -- A register is a number below 2 ^ 16, a byte one below 2 ^ 8, and a bit a Bool: true is 1.
-use Rattle.std.specs.Prelude.{ℕ, zero, suc, ◌+◌, ◌*◌, ◌/◌, ◌%◌, Bool, true, false, cond, List, [], ◌∷◌, ◌++◌, replicate, ◌==◌, bit_xor}
+use Rattle.std.specs.Prelude.{ℕ, zero, suc, ◌+◌, ◌*◌, ◌/◌, ◌%◌, Bool, true, false, cond, List, [], ◌∷◌, ◌++◌, map, replicate, ◌==◌, bit_xor}
 use Rattle.std.specs.Bool.{xor}
+use Rattle.std.specs.List.{range_with_len}
 
 -- bit 0 of a number
 unfoldable pub bit_0 : ℕ → Bool
@@ -40,6 +41,10 @@ byte_bits (byte ∷ bytes) = low_bits 8 byte ++ byte_bits bytes
 -- the table's entry at an index: the register after eight bit steps with bit 0, started from the index
 abbrev pub table_entry : ℕ → ℕ
 table_entry index = register_after index (replicate 8 false)
+
+-- the whole table
+unfoldable pub table : List ℕ
+table = map table_entry (range_with_len 0 256)
 
 -- the register before any bit, and the register that matching bits leave
 abbrev pub initial : ℕ

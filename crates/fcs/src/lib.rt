@@ -8,9 +8,8 @@
 
 ghost use Rattle.std.specs.Prelude.{◌≡◌, ◌<◌, Bool, List, [], ◌∷◌, map, slice_index};
 ghost use Rattle.std.specs.List.{range_with_len, flat_map};
-ghost use Rattle.fcs.specs.Fcs.{initial, bit_step, register_after, low_bits, byte_bits, table_entry, check_sequence, matches};
+ghost use Rattle.fcs.specs.Fcs.{initial, bit_step, register_after, low_bits, byte_bits, table_entry, table, check_sequence, matches};
 ghost use Rattle.fcs.specs.Laws.{ResidueLaw, BurstLaw};
-ghost use Rattle.fcs.specs.Table.{computed_table};
 
 // The register before any bit.
 pub const FCS_START: u16 = 0xFFFF;
@@ -72,12 +71,12 @@ pub fn table_entry(index: u8) -> u16
     entry_at(index as usize)
 }
 
-// Stated by numbers that the check computes: with `table_entry` in their place the check finds no proof for the table as it stands here.
-#[tactic(auto, unfolding(crate::specs::Table::computed_table))]
+// The one place that reads the table, so that no other goal has its 256 numbers: with them in a caller's goals the check gives up.
+#[tactic(auto, unfolding(crate::specs::Fcs::table, crate::specs::Fcs::register_after, crate::specs::Fcs::bit_step, crate::specs::Fcs::bit_0, crate::proofs::Words::xor))]
 fn entry_at(index: usize) -> u16
     requires { index < 256 }
-    ensures value { result ≡ slice_index computed_table index }
-    ensures whole { FCS_TABLE ≡ computed_table }
+    ensures value { result ≡ slice_index table index }
+    ensures whole { FCS_TABLE ≡ table }
 {
     FCS_TABLE[index]
 }

@@ -1,15 +1,12 @@
 -- Sending content bits in parts, and what that makes of the line bits.
 use Rattle.std.proofs.Common.{◌≡◌, ℕ, suc, ◌+◌, ◌-◌, ◌/◌, ◌%◌, ◌<◌, ◌≤◌, Bool, true, false, eqb, List, [], ◌∷◌, ◌++◌, length, get_or, drop, sym, refl, ap, ◌∙◌, append_assoc, append-nil, add-one, ap₂, arith}
 use Rattle.std.proofs.lemmas.List.{at_drop_more, at_drop_all}
+use Rattle.std.proofs.lemmas.List.Sums.{fold-append}
 use Rattle.fcs.specs.Fcs.{bit_0, low_bits, byte_bits, check_sequence}
 use Rattle.framing.specs.Reading.{flag_bits}
 use Rattle.framing.specs.Insertion.{inserted_from, inserted, content_bits, frame_bits}
 use Rattle.framing.proofs.Undone.{inserted_fifth, inserted_other}
 use Rattle.framing.specs.Stages.{Counted, sent_bit, sent}
-
-pub sent_append : (xs ys : List Bool) (s : Counted) → sent (xs ++ ys) s ≡ sent ys (sent xs s)
-sent_append [] ys s = refl
-sent_append (x ∷ xs) ys s = sent_append xs ys (sent_bit s x)
 
 -- one bit more of a number's lowest bits, and none
 pub low_bits_more : (w k n : ℕ) (s : Counted) → k < w → sent (low_bits (w - k) n) s ≡ sent (low_bits (w - (k + 1)) (n / 2)) (sent_bit s (eqb (n % 2) 1))
@@ -28,7 +25,7 @@ pub bytes_more : (bytes : List ℕ) (i : ℕ) (s : Counted) → i < length bytes
 unfolding byte_bits
 bytes_more bytes i s h =
     at_drop_more (λ (l : List ℕ). sent (byte_bits l) s) bytes i 0 h
-    ∙ sent_append (low_bits 8 (get_or bytes i 0)) (byte_bits (drop (i + 1) bytes)) s
+    ∙ fold-append sent_bit s (low_bits 8 (get_or bytes i 0)) (byte_bits (drop (i + 1) bytes))
 
 pub bytes_none : (bytes : List ℕ) (i : ℕ) (s : Counted) → length bytes ≤ i → sent (byte_bits (drop i bytes)) s ≡ s
 unfolding byte_bits
@@ -69,7 +66,7 @@ sent_bits (true ∷ bs) s = go (eqb s.run 4) refl (sent_bits bs)
 pub frame_is : (g : List ℕ) (s : Counted) → s.bits ≡ flag_bits → s.run ≡ 0 → (sent (low_bits 16 (check_sequence g)) (sent (byte_bits g) s)).bits ++ flag_bits ≡ frame_bits g
 frame_is g s flagged none =
     ap (λ (x : List Bool). x ++ flag_bits)
-    (ap (λ (t : Counted). t.bits) (sym (sent_append (byte_bits g) (low_bits 16 (check_sequence g)) s))
+    (ap (λ (t : Counted). t.bits) (sym (fold-append sent_bit s (byte_bits g) (low_bits 16 (check_sequence g))))
     ∙ sent_bits (content_bits g) s
     ∙ ap₂ (λ x k. x ++ inserted_from k (content_bits g)) flagged none)
     ∙ append_assoc flag_bits (inserted (content_bits g)) flag_bits
