@@ -26,10 +26,9 @@ wrap i p h =
 -- two places less than a whole turn apart are two bytes
 apart_from : (p first k n : ℕ) → first < p → n < p → k < n → (first + k) % p ≢ (first + n) % p
 apart_from p first k n a b c e =
-    ⊎_elim
-    (λ x. ⊎_elim (λ y. omega arith) (λ y. omega arith) (wrap (first + n) p (omega arith)))
-    (λ x. ⊎_elim (λ y. omega arith) (λ y. omega arith) (wrap (first + n) p (omega arith)))
-    (wrap (first + k) p (omega arith))
+    let x = wrap (first + k) p (omega arith) in
+    let y = wrap (first + n) p (omega arith) in
+    grind arith
 
 -- the byte of a place, wherever the ring begins
 pub place_is : (p first k : ℕ) → (first % p + k) % p ≡ (first + k) % p

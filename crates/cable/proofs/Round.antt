@@ -1,10 +1,9 @@
 -- A cable's puts go round its bytes: by induction over what was done since it was made.
-use Rattle.std.proofs.Common.{◌≡◌, ℕ, ◌+◌, ◌%◌, ◌<◌, ◌≤◌, Bool, true, false, cond, eqb, ltb, List, [], ◌∷◌, ◌++◌, length, get_or, drop, set, replicate, Ok, Err, sym, refl, ap, ◌∙◌, subst, ⊎_elim, append-nil, add-zero, mod-lt, zero-add, arith}
+use Rattle.std.proofs.Common.{◌≡◌, ℕ, ◌+◌, ◌%◌, ◌<◌, cond, eqb, List, [], ◌∷◌, ◌++◌, length, drop, set, replicate, Ok, Err, sym, refl, ap, ◌∙◌, subst, append-nil, add-zero, mod-lt, zero-add, arith}
 use native.Mathlib.Nat.{mod-add-mod, zero-mod}
 use Rattle.std.proofs.lemmas.List.FromFn.{fill_by_all}
 use Rattle.std.proofs.lemmas.List.{get_or-replicate, get_or-set_other, get_or-set_same, length_push, length-replicate, length-set, set-append_left}
-use Rattle.std.proofs.lemmas.Bool.{cases_eq, cases_lt, eq-eqb, ne_eqb, le-leb}
-use Rattle.refusal.specs.declared.Refusal.TheVariants.{LevelAboveOne, LineFull}
+use Rattle.std.proofs.lemmas.Bool.Decides.{nat_tests}
 use Rattle.cable.specs.Cables.{cable_meaning, cable_memory, ring_written, fresh_bytes, places_over}
 use Rattle.line.specs.Acts.{Happens, levels_put, put_by}
 use Rattle.line.specs.Histories.{History}
@@ -19,13 +18,8 @@ use Rattle.cable.specs.declared.Cable.{Cable}
 use Rattle.line.proofs.Carried.{same_places}
 
 -- a put that is accepted found a place
-not_refused : (t : Bool) (v : ℕ) → Ok v ≡ cond t (Err LevelAboveOne) (Err LineFull) → ⊥
-not_refused true v e = let z : ◌≡◌ {A = ℕ} 0 1 = cc in omega arith
-not_refused false v e = let z : ◌≡◌ {A = ℕ} 0 1 = cc in omega arith
-
 room_for : (l n p v : ℕ) → Ok v ≡ admitted l n p → n < p
-room_for l n p v e =
-    ⊎_elim (λ (h : n < p). h) (λ (h : p ≤ n). let a = le-leb p n h in absurd (not_refused (ltb 1 l) v (rw a at e))) (cases_lt n p)
+room_for l n p v e = grind (arith, nat_tests)
 
 -- one put more falls on the byte of its number
 fell_push : (p k i kept l : ℕ) (ls : List ℕ) → fell_on p k i kept (ls ++ l ∷ []) ≡ cond (eqb ((i + length ls) % p) k) l (fell_on p k i kept ls)
@@ -43,17 +37,7 @@ counted_set : (f g : ℕ → ℕ) (n i l : ℕ) → i < n → ((k : ℕ) → k <
 counted_set f g n i l h same =
     let e = length_counted f n in
     fill_by_all g (set (counted f n) i l) n 0 (length-set (counted f n) i l ∙ e)
-    (λ k w.
-    ⊎_elim
-    (λ (q : k ≡ i).
-    let a = eq-eqb i k (sym q) in
-    let b : l ≡ cond (eqb i k) l (f k) = rw a in
-    ap (λ j. get_or (set (counted f n) i l) j 0) q ∙ get_or-set_same (counted f n) i l 0 (omega arith) ∙ b ∙ sym (same k w))
-    (λ (q : k ≡ i → ⊥).
-    let a = ne_eqb i k (λ z. q (sym z)) in
-    let b : f k ≡ cond (eqb i k) l (f k) = rw a in
-    get_or-set_other (counted f n) i k l 0 q ∙ get_or_counted f n k w ∙ b ∙ sym (same k w))
-    (cases_eq k i))
+    (λ k w. let a = same k w in let b = get_or_counted f n k w in grind (arith, nat_tests, get_or-set_same, get_or-set_other))
 
 fresh_is : (lent : List ℕ) → fresh_bytes lent ≡ bytes_after lent []
 fresh_is lent =

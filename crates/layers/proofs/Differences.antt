@@ -1,11 +1,11 @@
 -- What NRZI keeps of the line below.
-use Rattle.std.proofs.Common.{◌≡◌, ℕ, zero, suc, ◌<◌, ◌≤◌, true, false, cond, eqb, List, [], ◌∷◌, ◌++◌, length, Some, None, sym, refl, ap, ⊎_elim, arith}
+use Rattle.std.proofs.Common.{◌≡◌, ℕ, zero, suc, ◌<◌, ◌≤◌, List, [], ◌∷◌, ◌++◌, length, Some, None, refl, ap, arith}
 use Rattle.std.specs.List.{slice_get}
-use Rattle.std.proofs.lemmas.Bool.{cases_eq, eq-eqb, ne_eqb}
+use Rattle.std.proofs.lemmas.Bool.Decides.{nat_tests}
 use Rattle.layers.specs.Soundness.{decoded_length}
 use Rattle.layers.specs.Laws.{NrziRule}
 use Rattle.line.specs.Meaning.{Meaning, Levels, Sound, put_answer, put_after, appended, newest_level}
-use Rattle.layers.specs.Layers.{inverted, decoded, decoded_levels, encoded, encoded_on, nrzi_over}
+use Rattle.layers.specs.Layers.{decoded, decoded_levels, encoded, encoded_on, nrzi_over}
 use Rattle.layers.proofs.Layered.{layer_answer, layer_after}
 
 -- the level before the one past the end is the newest
@@ -18,23 +18,11 @@ newest_low p [] l h = l
 newest_low p (x ∷ xs) l h = newest_low x xs (h 0) (λ k. h (suc k))
 
 pub encoded_low : (p l : ℕ) → p < 2 → encoded p l < 2
-encoded_low p l h =
-    elim (eqb l 1) as (λ t. cond t p (inverted p) < 2) [ true ↦ h | false ↦ omega arith ]
+encoded_low p l h = grind (arith, nat_tests)
 
 -- a level that went below comes back
 pub decoded_encoded : (p l : ℕ) → p < 2 → l < 2 → decoded p (encoded p l) ≡ l
-decoded_encoded p l h k =
-    ⊎_elim
-    (λ (e : l ≡ 1).
-    let a = eq-eqb l 1 e in
-    let b = eq-eqb p p refl in
-    rw (a, b) (sym e))
-    (λ (n : l ≡ 1 → ⊥).
-    let a = ne_eqb l 1 n in
-    let b = ne_eqb p (inverted p) (λ e. omega arith) in
-    let z : 0 ≡ l = omega arith in
-    rw (a, b) z)
-    (cases_eq l 1)
+decoded_encoded p l h k = grind (arith, nat_tests)
 
 pub decoded_push : (p : ℕ) (xs : List ℕ) (x : ℕ) → decoded_levels p (xs ++ x ∷ []) ≡ decoded_levels p xs ++ decoded (newest_level p xs) x ∷ []
 decoded_push p [] x = refl
@@ -42,8 +30,8 @@ decoded_push p (y ∷ xs) x = ap (λ zs. decoded p y ∷ zs) (decoded_push y xs 
 
 -- the level at k, by the one below and the one before it
 pub decoded_at : (p : ℕ) (xs : List ℕ) (k y x : ℕ) → slice_get (p ∷ xs) k ≡ Some y → slice_get xs k ≡ Some x → slice_get (decoded_levels p xs) k ≡ Some (decoded y x)
-decoded_at p [] k y x e f = let z : ◌≡◌ {A = ℕ} 0 1 = cc in let b : ⊥ = omega arith in absurd b
-decoded_at p (w ∷ xs) zero y x e f = cc
+decoded_at p [] k y x e f = grind arith
+decoded_at p (w ∷ xs) zero y x e f = grind arith
 decoded_at p (w ∷ xs) (suc k) y x e f = decoded_at w xs k y x e f
 
 pub decoded_none : (p : ℕ) (xs : List ℕ) (k : ℕ) → slice_get xs k ≡ None → slice_get (decoded_levels p xs) k ≡ None
@@ -53,7 +41,7 @@ decoded_none p (w ∷ xs) (suc k) e = decoded_none w xs k e
 
 pub decoded_none_before : (p : ℕ) (xs : List ℕ) (k : ℕ) → slice_get (p ∷ xs) k ≡ None → slice_get (decoded_levels p xs) k ≡ None
 decoded_none_before p [] k e = refl
-decoded_none_before p (w ∷ xs) zero e = let z : ◌≡◌ {A = ℕ} 0 1 = cc in let b : ⊥ = omega arith in absurd b
+decoded_none_before p (w ∷ xs) zero e = grind arith
 decoded_none_before p (w ∷ xs) (suc k) e = decoded_none_before w xs k e
 
 pub ruleset decoded_lemmas = (decoded_at, decoded_none, decoded_none_before)
@@ -78,8 +66,5 @@ module _ (m : Meaning) (a l : ℕ) (h : Sound m) (low : l ≤ 1) where
 
 pub nrzi_rule : NrziRule
 nrzi_rule before [] k h = let b : ⊥ = omega arith in absurd b
-nrzi_rule before (x ∷ xs) zero h = (
-  (λ e. let a = eq-eqb before x (sym e) in rw a),
-  (λ n. let a = ne_eqb before x (λ e. n (sym e)) in rw a),
-)
+nrzi_rule before (x ∷ xs) zero h = (grind (arith, nat_tests), grind (arith, nat_tests))
 nrzi_rule before (x ∷ xs) (suc k) h = nrzi_rule x xs k (omega arith)

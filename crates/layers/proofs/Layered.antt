@@ -1,14 +1,11 @@
 -- A layer puts on the line below: the answer is the line's own, and what then stands is seen through the layer.
-use Rattle.std.proofs.Common.{◌≡◌, ℕ, ◌≤◌, length, Ok, Err, sym, refl, ap, ◌∙◌}
-use Rattle.std.proofs.lemmas.Bool.{le-ltb}
+use Rattle.std.proofs.Common.{◌≡◌, ℕ, ◌≤◌, length, Ok, Err, sym, refl, ap, ◌∙◌, arith}
+use Rattle.std.proofs.lemmas.Bool.Decides.{nat_tests}
 use Rattle.line.specs.Meaning.{Answer, Meaning, admitted, appended, if_accepted, put_answer, put_after}
 
 -- a level is admitted like any other
 admitted_same : (l e n p : ℕ) → l ≤ 1 → e ≤ 1 → admitted l n p ≡ admitted e n p
-admitted_same l e n p low under =
-    let a = le-ltb 1 l low in
-    let b = le-ltb 1 e under in
-    rw (a, b)
+admitted_same l e n p low under = grind (arith, nat_tests)
 
 accepted_through : {A B : Type 0} (f : A → B) (a : Answer) (new old : A) → f (if_accepted a new old) ≡ if_accepted a (f new) (f old)
 accepted_through f (Ok n) new old = refl

@@ -1,4 +1,3 @@
-use Rattle.std.proofs.Common.{refl}
 use Rattle.layers.proofs.Differences.{nrzi_rule}
 use Rattle.layers.proofs.nrzi.Nrzi.new.Goals as goal
 
