@@ -18,6 +18,7 @@ pub use script::{perform, run};
 pub use word::Word;
 
 /// A queue of levels, 0 or 1, with a fixed number of places.
+// No method has a body here: what is alike in the lines reads their own fields, which a trait does not see.
 pub trait Line {
     // The number of places, the level last taken, and the waiting levels, oldest first.
     ghost meaning: { Self → Meaning };
