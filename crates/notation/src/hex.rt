@@ -1,11 +1,11 @@
 // Bytes as hexadecimal words.
-ghost use Rattle.std.specs.Prelude.{◌≡◌, ◌+◌, ◌^◌, ◌<◌, map, IfOk, None, vec_items, string_bytes, OnOk};
+ghost use Rattle.std.specs.Prelude.{◌≡◌, ◌+◌, ◌^◌, ◌<◌, map, IfOk, Some, None, vec_items, string_bytes, OnOk};
 ghost use Rattle.faults.specs.Answers.{Answers};
 ghost use Rattle.notation.specs.Hex.{digit_value, with_digit, word_ended, characters_read, word_read, words_read, hex_text, sequence_text, ReadBack};
 
 use faults::Fault;
 use std::alloc::{AllocError, AllocFailed, Global};
-use std::fmt::Write;
+use std::fmt;
 use std::marker::Model;
 
 // The value of a hexadecimal digit.
@@ -108,20 +108,36 @@ pub fn parse_hex(heap: Global, words: &[String]) -> Result<Vec<u8>, Fault>
     Ok(bytes)
 }
 
+// Bytes that are printed as upper-case hexadecimal pairs with a blank between two.
+#[derive(Clone, Copy)]
+pub struct HexWords<'a>(pub &'a [u8]);
+
+impl fmt::Display for HexWords<'_> {
+    ghost output = { λ words. Some (hex_text words.0.now) };
+
+    #[tactic(auto, using(crate::proofs::Pairs::pair_steps, faults::proofs::Printed::byte_printed))]
+    fn fmt<W: fmt::Write>(&self, f: &mut fmt::Formatter<W>) -> fmt::Result {
+        let bytes = self.0;
+        let [first, rest @ ..] = bytes else {
+            return Ok(());
+        };
+        let first = *first;
+        write!(f, "{first:02X}")?;
+        for &byte in rest {
+            write!(f, " {byte:02X}")?;
+        }
+        Ok(())
+    }
+}
+
 // Bytes as upper-case hexadecimal pairs with a blank between two, which as words are read as these bytes.
-#[tactic(auto, using(crate::proofs::Back::hex_back, crate::proofs::Pairs::pair_steps, faults::proofs::Printed::byte_printed))]
+#[tactic(auto, using(crate::proofs::Back::hex_back))]
 pub fn hex_text(heap: Global, bytes: &[u8]) -> Result<String, AllocError>
     ensures text { IfOk result (λ s. string_bytes s ≡ hex_text bytes.now) }
     ensures read_back { ReadBack }
 {
-    let [first, rest @ ..] = bytes else {
-        return Ok(String::new(heap));
-    };
-    let mut text = format!(in heap; "{first:02X}")?;
-    for &byte in rest {
-        write!(text, " {byte:02X}")?;
-    }
-    Ok(text)
+    let words = HexWords(bytes);
+    format!(in heap; "{words}")
 }
 
 // A check sequence as four upper-case hexadecimal digits.

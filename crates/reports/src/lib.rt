@@ -10,19 +10,25 @@ use faults::Fault;
 use fcs::{fcs_check_sequence, fcs_matches};
 use framing::{Stretch, Verdict};
 use notation::bits::{bit_text, parse_bits};
-use notation::hex::hex_text;
+use notation::hex::HexWords;
 use std::alloc::{AllocError, Global};
 use std::fmt;
 use std::fmt::Write;
 
 // Bytes in hexadecimal, or `none`.
-fn hex_or_none(heap: Global, bytes: &[u8]) -> Result<String, AllocError>
-    ensures { IfOk result (λ s. string_bytes s ≡ hex_or_none bytes.now) }
-{
-    if bytes.is_empty() {
-        return String::from_str(heap, "none");
+#[derive(Clone, Copy)]
+struct HexOrNone<'a>(&'a [u8]);
+
+impl fmt::Display for HexOrNone<'_> {
+    ghost output = { λ hex. Some (hex_or_none hex.0.now) };
+
+    fn fmt<W: fmt::Write>(&self, f: &mut fmt::Formatter<W>) -> fmt::Result {
+        if self.0.is_empty() {
+            return write!(f, "none");
+        }
+        let words = HexWords(self.0);
+        write!(f, "{words}")
     }
-    hex_text(heap, bytes)
 }
 
 // The line of a check sequence, with the order in which its bytes are sent.
@@ -54,18 +60,18 @@ fn match_text(bytes: &[u8]) -> &'static str
 pub fn check_report(heap: Global, bytes: &[u8]) -> Result<String, AllocError>
     ensures { IfOk result (λ s. string_bytes s ≡ check_told bytes.now) }
 {
-    let hex = hex_or_none(heap, bytes)?;
+    let hex = HexOrNone(bytes);
     let number = bytes.len();
     let line = SequenceLine(fcs_check_sequence(bytes));
     let matching = match_text(bytes);
     format!(in heap; "bytes: {hex}\nnumber of bytes: {number}\n{line}match: {matching}\n")
 }
 
-// What is told of bytes and of line bits.
+// What is told of bytes and of line bits. It stands apart from `encode_report`, since its proof closes only over any bits.
 fn frame_report(heap: Global, bytes: &[u8], bits: &[bool]) -> Result<String, AllocError>
     ensures { IfOk result (λ s. string_bytes s ≡ frame_told bytes.now bits.now) }
 {
-    let hex = hex_or_none(heap, bytes)?;
+    let hex = HexOrNone(bytes);
     let line = SequenceLine(fcs_check_sequence(bytes));
     let number = bits.len();
     let text = bit_text(heap, bits)?;
@@ -119,7 +125,7 @@ pub fn read_report(heap: Global, bits: &[bool]) -> Result<String, AllocError>
     let stretches = framing::read(heap, bits)?;
     let mut text = String::new(heap);
     for (i, stretch) in stretches.iter().enumerate() {
-        let content = hex_or_none(heap, &stretch.content)?;
+        let content = HexOrNone(&stretch.content);
         let Stretch { verdict, n, .. } = stretch;
         writeln!(
             text,
