@@ -76,6 +76,7 @@ struct Named(u8);
 impl fmt::Display for Named {
     ghost output = { λ n. Some (named n.0) };
 
+    #[tactic(auto, using(crate::proofs::Printed::named_steps), unfolding(crate::specs::Messages::named))]
     fn fmt<W: fmt::Write>(&self, f: &mut fmt::Formatter<W>) -> fmt::Result {
         let byte = self.0;
         if byte.is_ascii_graphic() {
