@@ -4,7 +4,8 @@
 ghost use Rattle.std.specs.Prelude.{◌≡◌, map, length, Some, IfOk, string_bytes};
 ghost use Rattle.framing.specs.Reading.{as_read, good_contents};
 ghost use Rattle.faults.specs.Answers.{Answers};
-ghost use Rattle.reports.specs.Reports.{hex_or_none, sequence_line, match_text, check_told, frame_told, encode_told, summary_lines, read_told, text_told};
+ghost use Rattle.reports.specs.Reports.{hex_or_none, sequence_line, match_text, summary_lines};
+ghost use Rattle.reports.specs.Reports.{check_told, frame_told, encode_told, read_told, text_told};
 
 use faults::Fault;
 use fcs::{fcs_check_sequence, fcs_matches};
