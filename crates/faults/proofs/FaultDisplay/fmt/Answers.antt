@@ -2,6 +2,3 @@ use Rattle.faults.proofs.FaultDisplay.fmt.Goals as goal
 
 pub returns-in-NoHexDigit-clause-writes : goal.returns-in-NoHexDigit-clause-writes
 returns-in-NoHexDigit-clause-writes g c = rw c.in-NoHexDigit.is c.write-in-NoHexDigit.ensures.writes
-
-pub returns-in-NoBit-clause-writes : goal.returns-in-NoBit-clause-writes
-returns-in-NoBit-clause-writes g c = rw c.in-NoBit.is c.write-in-NoBit.ensures.writes
