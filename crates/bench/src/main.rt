@@ -102,7 +102,7 @@ fn read_source(rt: &HostRuntime, source: &Source) -> Result<String, Failure> {
     read_text(heap, name, &text)
 }
 
-// What a command prints, or why it prints nothing.
+// What a command prints, or why it prints nothing. A match and no table of functions: the check asks for an arm for each command.
 fn answer(rt: &HostRuntime, help: &str, command: &Command) -> Result<String, Failure>
     ensures { Answered help.now result (command_shown command.now) }
 {

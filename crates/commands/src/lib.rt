@@ -9,7 +9,7 @@ use faults::Fault;
 use notation::hex::parse_hex;
 use std::alloc::Global;
 
-// Where `read` takes its bit text from.
+// Where `read` takes its bit text from. It has the shape of an `Option`, but its names say which place it is.
 #[derive(Drop)]
 pub enum Source {
     StandardInput,

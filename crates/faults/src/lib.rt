@@ -88,6 +88,7 @@ impl fmt::Display for Named {
     }
 }
 
+// Written out, since a derived one would say nothing of the text to those who call it.
 impl fmt::Display for Fault {
     ghost output = { λ fault. Some (message fault) };
 
@@ -124,7 +125,7 @@ impl fmt::Display for Fault {
 impl Error for Fault {}
 
 impl Fault {
-    // What stands between the thing complained of and the message: a place in it follows, or not.
+    // What stands between the thing complained of and the message: a place in it follows, or not. It prints no fault, so it is no `Display`.
     fn separator(self) -> &'static str
         ensures { result.now ≡ separator self }
     {

@@ -148,7 +148,7 @@ pub fn fcs_check_sequence(bytes: &[u8]) -> u16
     register_after(bytes) ^ FCS_INVERT
 }
 
-// Whether the byte list matches, its check sequence included.
+// Whether the byte list matches, its check sequence included: `matches` for bytes, with the law that holds of them.
 // The clause `burst`: errors in at most sixteen neighbouring bits are always seen.
 #[tactic(auto, using(crate::proofs::Fold::bits_of_bytes))]
 pub fn fcs_matches(bytes: &[u8]) -> bool

@@ -15,7 +15,7 @@ pub extern "C" fn fcs_check_sequence(bytes: &[u8]) -> u16
     fcs::fcs_check_sequence(bytes)
 }
 
-// 1 if the byte list matches, its check sequence included, and 0 if not.
+// 1 if the byte list matches, its check sequence included, and 0 if not: to C the answer is a number.
 // The clause `burst`: errors in at most sixteen neighbouring bits are always seen.
 #[unsafe(no_mangle)]
 pub extern "C" fn fcs_matches(bytes: &[u8]) -> u8

@@ -5,7 +5,8 @@ ghost use Rattle.framing.specs.Stages.{nothing, kept_bit};
 use std::alloc::{AllocError, Global};
 use std::marker::Model;
 
-// The bits kept so far, and how many 1s in a row came last, at most five.
+// The bits kept so far, and how many 1s in a row came last, at most five. An `Encoder` has the same fields, and contracts see both alike; one
+// type for both would have to ask at each bit which of them it is.
 #[derive(Drop)]
 pub struct Deleter {
     bits: Vec<bool>,
@@ -37,6 +38,7 @@ impl Deleter {
     fn bit(&mut self, bit: bool) -> Result<(), AllocError>
         ensures { OnOk result (self.new ≡ kept_bit self.old bit) }
     {
+        // Two pushes: with one for both bits the loop of `read` was slower (docs/PERFORMANCE.md).
         if bit {
             self.bits.push(true)?;
             self.run = (self.run + 1).min(5);
@@ -50,7 +52,7 @@ impl Deleter {
     }
 }
 
-// The bits that zero deletion leaves of a stretch.
+// The bits that zero deletion leaves of a stretch. `read` feeds its reader in the same three lines; a trait for the two would be longer.
 pub(crate) fn without_inserted(heap: Global, stretch: &[bool]) -> Result<Vec<bool>, AllocError>
     ensures { IfOk result (λ v. v.items ≡ (fold kept_bit nothing stretch.now).bits) }
 {

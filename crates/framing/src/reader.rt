@@ -102,6 +102,7 @@ impl Reader {
     fn bit(&mut self, bit: bool) -> Result<(), AllocError>
         ensures { OnOk result (self.new ≡ received self.old bit) }
     {
+        // In a local: read from the field, it made the loop of `read` slower (docs/PERFORMANCE.md).
         let ones = self.ones;
         match (ones, bit) {
             (6, true) => self.since = None,

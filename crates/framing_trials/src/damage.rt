@@ -69,6 +69,7 @@ impl Burst {
     ) -> Result<(), AllocError>
         requires { F.IsAlwaysCallable good }
     {
+        // by places, since bits in bytes cannot be gone over
         for place in 0..bits.bits().saturating_sub(self.width.saturating_sub(1)) {
             self.flip(bits, place);
             counts.count(good(bits)?);

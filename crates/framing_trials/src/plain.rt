@@ -62,6 +62,7 @@ pub(crate) fn read(heap: Global, bits: &[bool]) -> Result<Vec<Stretch>, AllocErr
     let mut found = Vec::new(heap);
     // where the last flag ended, if no abort came since
     let mut since = None;
+    // by ends, since every rule looks back from one
     for end in 1..=bits.len() {
         let so_far = &bits[..end];
         if ends_in_abort(so_far) {

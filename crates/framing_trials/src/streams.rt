@@ -49,7 +49,10 @@ fn stream(heap: Global, numbers: &mut Numbers) -> Result<Vec<bool>, AllocError> 
 // Reads `count` streams in both ways.
 pub(crate) fn compared(heap: Global, count: u32) -> Result<Readings, AllocError> {
     let mut numbers = Numbers::from_seed(0x9E37_79B9_7F4A_7C15);
-    let mut seen = Readings::default();
+    let mut seen = Readings {
+        streams: count,
+        ..Readings::default()
+    };
     for _ in 0..count {
         let line = stream(heap, &mut numbers)?;
         let stretches = framing::read(heap, &line)?;
@@ -58,7 +61,6 @@ pub(crate) fn compared(heap: Global, count: u32) -> Result<Readings, AllocError>
             .iter()
             .filter(|stretch| stretch.verdict == Verdict::Good)
             .count();
-        seen.streams = seen.streams.saturating_add(1);
         seen.stretches = seen.stretches.saturating_add(stretches.len());
         seen.good = seen.good.saturating_add(good);
         seen.different = seen.different.saturating_add(u32::from(differs));

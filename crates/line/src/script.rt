@@ -9,6 +9,7 @@ use crate::act::Act;
 use refusal::Refusal;
 
 /// One act, whichever it is.
+// An act is data and no closure: scripts are kept, and the law tells what an act was.
 pub fn perform<L: Line>(line: &mut L, act: Act) -> Result<u8, Refusal>
     ensures { Happens (shown L.meaning L.memory L.written) line.old act result line.new }
 {
@@ -20,6 +21,7 @@ pub fn perform<L: Line>(line: &mut L, act: Act) -> Result<u8, Refusal>
 
 /// Performs acts in order, as many as there are places for answers, and says how many.
 /// What comes of any acts: the line carries levels in order and loses, adds and alters none.
+// The acts and the answers are two slices of the caller's, and not one of pairs: the acts may stand where nothing can be written.
 pub fn run<L: Line>(line: &mut L, acts: &[Act], answers: &mut [Result<u8, Refusal>]) -> usize
     ensures count { result ≡ min (length acts.now) (length answers.old) }
     ensures done { Done (Happens (shown L.meaning L.memory L.written)) line.old acts.now answers.new line.new }
@@ -27,6 +29,7 @@ pub fn run<L: Line>(line: &mut L, acts: &[Act], answers: &mut [Result<u8, Refusa
     ensures carries { AlwaysCarries (shown L.meaning L.memory L.written) line.old }
 {
     let most = acts.len().min(answers.len());
+    // Over `answers.iter_mut()` it would need no places, but then no proof knows what the loop wrote.
     for (n, act) in acts[..most].iter().enumerate() {
         answers[n] = perform(line, *act);
     }

@@ -9,6 +9,7 @@ use std::marker::Model;
 const PLACES: usize = 64;
 
 /// A word: the oldest level is the lowest bit.
+// All levels stand in one machine word, with no array; so their number stands beside it.
 #[derive(Drop)]
 pub struct Word {
     levels: u64,

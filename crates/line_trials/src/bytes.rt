@@ -58,7 +58,7 @@ fn expected<F: Fn(u8, u8) -> u8>(
     Ok(bytes)
 }
 
-// Performs the acts over bytes, and prints how many of these are not as expected.
+// Performs the acts over bytes, and prints how many of these are not as expected. Name and size vary apart, as do the two closures.
 fn compare<R, F>(
     rt: &HostRuntime,
     name: &str,

@@ -6,7 +6,7 @@ use layers::{Crossed, Nrzi};
 use line::{Jumper, Line, Word};
 use sample_line::TwoPlaces;
 
-// A line that is empty as it is made, with this level last taken.
+// A line that is empty as it is made, with this level last taken. Places and level are not read off the line, which is what is tried.
 fn fresh<L: Line + Drop>(
     rt: &HostRuntime,
     name: &str,

@@ -17,7 +17,7 @@ fn words(heap: Global, text: &str) -> Result<Vec<String>, AllocError> {
         .try_collect(heap)
 }
 
-// What comes of an input: the answer as text, or the fault's message.
+// What comes of an input: the answer as text, or the fault's message. The functions below are one call of it each.
 fn outcome<T, F: FnOnce(T) -> Result<String, AllocError>>(
     heap: Global,
     answer: Result<T, Fault>,
@@ -149,6 +149,7 @@ const COMMANDS: [Case; 20] = [
     Case("", "no such command: bench --help lists them"),
 ];
 
+// Four tests have these few lines each: one function for them would take the runtime, the cases and a closure, and be no shorter.
 #[test]
 fn hexadecimal_words(rt: HostRuntime) -> Result<(), Fail> {
     let heap = rt.alloc();
