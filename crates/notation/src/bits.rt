@@ -74,7 +74,7 @@ pub fn parse_bits(heap: Global, text: &[u8]) -> Result<Vec<bool>, Fault>
     Ok(reader.bits)
 }
 
-// Bits as a text of 0 and 1, which is read as these bits. No conversion of the library makes a digit of a bool.
+// Bits as a text of 0 and 1, which is read as these bits. By `char::from_digit` it would take a number and an `unwrap`.
 #[tactic(auto, using(crate::proofs::Back::bits_back, crate::proofs::Glyphs::glyphs_encoded))]
 pub fn bit_text(heap: Global, bits: &[bool]) -> Result<String, AllocError>
     ensures text { IfOk result (λ s. string_bytes s ≡ bit_text bits.now) }
