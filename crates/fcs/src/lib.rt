@@ -140,7 +140,7 @@ pub fn matches<T: CheckUnit>(units: &[T]) -> bool
 
 // The check sequence of a byte list. It is sent bit 0 first, so its low byte goes first.
 // The clause `residue`: any bytes followed by their check sequence match.
-#[tactic(auto, using(crate::proofs::Fold::bits_of_bytes))]
+#[tactic(auto, using(crate::proofs::Fold::bits_of_bytes, crate::proofs::Residue::residue_law))]
 pub fn fcs_check_sequence(bytes: &[u8]) -> u16
     ensures value { result ≡ check_sequence bytes.now }
     ensures residue { ResidueLaw }
