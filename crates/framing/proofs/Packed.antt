@@ -1,7 +1,16 @@
 -- Bits and bytes: bits of bytes, put in bytes again.
-use Rattle.std.proofs.Common.{◌≡◌, ℕ, zero, suc, ◌+◌, ◌*◌, ◌/◌, ◌<◌, ◌≤◌, min, Bool, List, [], ◌∷◌, ◌++◌, length, sym, refl, ap, ◌∙◌, subst, ap₂, append_assoc, arith, pow_mono}
-use Rattle.std.proofs.lemmas.List.{length-append}
-use Rattle.fcs.specs.Fcs.{low_bits, byte_bits, spelt}
+use Rattle.std.proofs.Common.{◌≡◌, ℕ, zero, suc, ◌+◌, ◌*◌, ◌/◌, ◌<◌, ◌≤◌, min, Bool, List, [], ◌∷◌, ◌++◌, map, reverse, fold, length, sym, None, Some, Result, Vec, IfOk, vec_items, vec_len, refl, ap, ◌∙◌, subst, ap₂, arith, pow_mono}
+use mathlib.Core.List.{reverse-cons}
+use denote.Param.Members.{Mut, Called}
+use denote.Ref.{Bor}
+use Rattle.std.specs.Bool.{⊤}
+use Rattle.std.proofs.lemmas.List.{length-append, map-append, length-reverse, reverse-reverse}
+use Rattle.std.proofs.lemmas.List.Sums.{fold-append}
+use Rattle.std.specs.Iterator.{Yields, DrainsIf}
+use Rattle.std.proofs.lemmas.Result.{IfOk-weaker}
+use Rattle.std.specs.Iterator.Adapters.{map_source, map_callee, map_steps, rev_source, rev_steps}
+use Rattle.std.specs.Slice.Iter.{chunks_rest, chunks_size, chunks_steps, iter_rest, iter_steps_back}
+use Rattle.fcs.specs.Fcs.{low_bits, byte_bits, bit_value, spelt}
 use Rattle.fcs.proofs.Spelt.{spelt_lt, spelt_low_bits}
 use Rattle.framing.specs.Bytes.{bytes, Bytes}
 
@@ -42,6 +51,10 @@ length_bytes (a ∷ b ∷ c ∷ d ∷ e ∷ f ∷ g ∷ h ∷ s) = omega (arith,
 pub spelt_few : (bs : List Bool) → length bs ≤ 7 → spelt bs < 128
 spelt_few bs few = omega (arith, spelt_lt bs, pow_mono few)
 
+bytes_none : (bits : List Bool) → length bits ≡ 0 → bytes bits ≡ []
+bytes_none [] e = refl
+bytes_none (b ∷ bits) e = absurd (omega arith)
+
 -- a chunk of bits from the front, eight or all that there are, is one byte
 bytes_chunk : (chunk more : List Bool) → length chunk ≡ min 8 (length (chunk ++ more)) → 0 < length (chunk ++ more) → bytes (chunk ++ more) ≡ spelt chunk ∷ bytes more
 bytes_chunk [] more e h = absurd (omega arith)
@@ -62,10 +75,66 @@ bytes_chunk (a ∷ b ∷ c ∷ d ∷ f ∷ g ∷ []) (x ∷ more) e h = absurd (
 bytes_chunk (a ∷ b ∷ c ∷ d ∷ f ∷ g ∷ i ∷ []) (x ∷ more) e h = absurd (omega arith)
 bytes_chunk (a ∷ b ∷ c ∷ d ∷ f ∷ g ∷ i ∷ j ∷ k ∷ chunk) more e h = absurd (omega arith)
 
--- and so in a loop over the chunks, of what is left
-pub chunk_more : (out : List ℕ) (rest chunk more : List Bool) (size : ℕ) → size ≡ 8 → rest ≡ chunk ++ more → length chunk ≡ min size (length rest) → 0 < length rest
-    → (out ++ (spelt chunk ∷ [])) ++ bytes more ≡ out ++ bytes rest
-chunk_more out rest chunk more size eight parts e some =
-    append_assoc out (spelt chunk ∷ []) (bytes more)
-    ∙ ap (λ l. out ++ l)
-    (sym (bytes_chunk chunk more (e ∙ ap₂ (λ n l. min n (length l)) eight parts) (subst (λ l. 0 < length l) parts some)) ∙ ap bytes (sym parts))
+-- what a chain makes of the chunks, one byte of each
+pub bytes_of_chunks : {F : Type 0} (g : Mut F (Bor (List Bool) × Unit {0}) ℕ) (f : F)
+    → ((x : Bor (List Bool)) (r : ℕ) (q : F) → Called g f (x, tt) r q → (q ≡ f) × (r ≡ spelt x.now))
+    → (xs : List ℕ) (s t u : _) → chunks_size (map_source s) ≡ 8 → map_callee s ≡ f
+    → Yields (map_steps chunks_steps g) s xs t → map_steps chunks_steps g t None u → xs ≡ bytes (chunks_rest (map_source s))
+bytes_of_chunks g f h [] s t u eight same e end =
+    sym (bytes_none (chunks_rest (map_source s)) (ap (λ k. length (chunks_rest (map_source k))) e ∙ end.0.1.0))
+bytes_of_chunks g f h (y ∷ ys) s t u eight same (j, (x, step, call), more) end =
+    let made = h x y (map_callee j) (subst (λ k. Called g k (x, tt) y (map_callee j)) same call) in
+    let rest = bytes_of_chunks g f h ys j t u (step.0 ∙ eight) made.0 more end in
+    let few : length x.now ≡ min 8 (length (x.now ++ chunks_rest (map_source j))) =
+    step.1.1 ∙ ap₂ (λ n l. min n (length l)) eight step.1.0 in
+    ap₂ ◌∷◌ made.1 rest
+    ∙ sym (bytes_chunk x.now (chunks_rest (map_source j)) few (subst (λ l. 0 < length l) step.1.0 step.1.2))
+    ∙ ap bytes (sym step.1.0)
+
+pub collected : {F Z E : Type 0} (g : Mut F (Bor (List Bool) × Unit {0}) ℕ) (f : F)
+    → ((x : Bor (List Bool)) (r : ℕ) (q : F) → Called g f (x, tt) r q → (q ≡ f) × (r ≡ spelt x.now))
+    → (r : Result (Vec ℕ Z) E) (s : _) (bits : List Bool)
+    → IfOk r (λ w. (xs : List ℕ) × DrainsIf (map_steps chunks_steps g) ⊤ s xs × ((vec_items w ≡ xs) × (vec_len w ≡ length xs)))
+    → chunks_size (map_source s) ≡ 8 → map_callee s ≡ f → chunks_rest (map_source s) ≡ bits → IfOk r (λ w. vec_items w ≡ bytes bits)
+collected g f h r s bits ran eight same all =
+    IfOk-weaker r _ _
+    (λ w (xs, (t, came, end), (made, long)).
+    made ∙ bytes_of_chunks g f h xs s t (end tt).0 eight same came (end tt).1 ∙ ap bytes all)
+    ran
+
+-- ---- the bits of one byte, the last one first
+
+abbrev pub above : ℕ → Bool → ℕ
+above n b = 2 * n + bit_value b
+
+pub fold_above : (bs : List Bool) → fold above 0 (reverse bs) ≡ spelt bs
+fold_above [] = refl
+fold_above (b ∷ bs) =
+    ap (fold above 0) (reverse-cons b bs)
+    ∙ fold-append above 0 (reverse bs) (b ∷ [])
+    ∙ omega (arith, fold_above bs)
+
+-- one bit more
+pub fold_more : (xs : List (Bor Bool)) (x : Bor Bool) (n : ℕ) → n ≡ fold above 0 (map (λ y. y.now) xs)
+    → above n x.now ≡ fold above 0 (map (λ y. y.now) (xs ++ (x ∷ [])))
+fold_more xs x n e =
+    ap (λ m. above m x.now) e
+    ∙ sym (ap (fold above 0) (map-append (λ y. y.now) xs (x ∷ [])) ∙ fold-append above 0 (map (λ y. y.now) xs) (x.now ∷ []))
+
+-- fewer than eight of them leave room for one more
+pub fold_few : (bs : List Bool) → length bs ≤ 7 → fold above 0 bs < 128
+fold_few bs few =
+    let same = ap (fold above 0) (sym (reverse-reverse bs)) ∙ fold_above (reverse bs) in
+    omega (arith, same, spelt_few (reverse bs) (omega (arith, few, length-reverse bs)))
+
+rev_yields : (xs : List (Bor Bool)) (s t : _) → Yields (rev_steps iter_steps_back) s xs t
+    → length xs + length (iter_rest (rev_source t)) ≡ length (iter_rest (rev_source s))
+rev_yields [] s t e = omega (arith, ap (λ k. length (iter_rest (rev_source k))) e)
+rev_yields (x ∷ xs) s t (j, step, more) =
+    omega (arith, rev_yields xs j t more, ap length step, length-append (iter_rest (rev_source j)) (x.now ∷ []))
+
+-- an item comes after fewer items than there are
+pub rev_before : (xs : List (Bor Bool)) (s t u : _) (x : Bor Bool) (n : ℕ) → Yields (rev_steps iter_steps_back) s xs t
+    → rev_steps iter_steps_back t (Some x) u → length (iter_rest (rev_source s)) ≤ n → length xs < n
+rev_before xs s t u x n came next most =
+    omega (arith, rev_yields xs s t came, ap length next, length-append (iter_rest (rev_source u)) (x.now ∷ []))
