@@ -23,8 +23,7 @@ impl Verdict {
     {
         match n {
             0..=24 => Verdict::Ignored,
-            25..=31 => Verdict::Bad,
-            _ if matching => Verdict::Good,
+            32.. if matching => Verdict::Good,
             _ => Verdict::Bad,
         }
     }
