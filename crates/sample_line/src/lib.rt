@@ -64,7 +64,7 @@ impl Line for TwoPlaces {
         self.held = match self.held {
             Held::Nothing => Held::One(high),
             Held::One(oldest) => Held::Two(oldest, high),
-            Held::Two(oldest, newest) => Held::Two(oldest, newest),
+            Held::Two(..) => unreachable!(),
         };
         Ok(answer)
     }
