@@ -32,14 +32,14 @@ pub trait Line {
     // What an accepted put of a level leaves there.
     ghost written: { Self → ℕ → Memory };
 
-    /// One level more behind those that wait: 0, or refusal 2 for a level above 1, then 16 for a full line.
+    /// One level more behind those that wait: 0, or `LevelAboveOne` (2) for a level above 1, then `LineFull` (16) for a full line.
     /// A refusal alters nothing.
     fn put(&mut self, level: u8) -> Result<u8, Refusal>
         ensures answer { result ≡ put_answer (meaning self.old) level }
         ensures after { meaning self.new ≡ put_after (meaning self.old) level }
         ensures stored { memory self.new ≡ if_accepted (put_answer (meaning self.old) level) (written self.old level) (memory self.old) };
 
-    /// The oldest level, which leaves the line and is then the level last taken, or refusal 17 if none waits.
+    /// The oldest level, which leaves the line and is then the level last taken, or `LineEmpty` (17) if none waits.
     /// Neither writes a byte of the caller's.
     fn take(&mut self) -> Result<u8, Refusal>
         ensures answer { result ≡ take_answer (meaning self.old) }

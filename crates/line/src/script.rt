@@ -29,7 +29,7 @@ pub fn run<L: Line>(line: &mut L, acts: &[Act], answers: &mut [Result<u8, Refusa
     ensures carries { AlwaysCarries (shown L.meaning L.memory L.written) line.old }
 {
     let most = acts.len().min(answers.len());
-    // Over `answers.iter_mut()` it would need no places, but then no proof knows what the loop wrote.
+    // Zipped with the answers' `iter_mut()` the loop would need no places, but of what a zip writes a proof knows nothing.
     for (n, act) in acts[..most].iter().enumerate() {
         answers[n] = perform(line, *act);
     }

@@ -15,6 +15,7 @@ pub struct Word {
     levels: u64,
     count: usize,
     last: bool,
+    // no part of the model's invariant, since the view reads it
     ghost within: { count ≤ 64 },
 }
 
