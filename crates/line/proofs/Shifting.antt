@@ -1,8 +1,8 @@
 -- The bits of a word to which one is added above, or from which the lowest is taken.
-use Rattle.std.proofs.Common.{◌≡◌, ℕ, ◌+◌, ◌-◌, ◌*◌, ◌/◌, ◌%◌, ◌^◌, ◌<◌, ◌≤◌, Bool, eqb, Ok, sym, ap, ◌∙◌, subst, mod-eq_of_lt, mul_assoc, add_comm, div-one, arith}
-use native.Mathlib.Nat.{add-mul-mod_self_right}
+use Rattle.std.proofs.Common.{◌≡◌, ℕ, ◌+◌, ◌-◌, ◌*◌, ◌/◌, ◌%◌, ◌^◌, ◌<◌, ◌≤◌, Bool, eqb, Ok, sym, ap, ◌∙◌, subst, mod-eq_of_lt, arith}
 use lib.Bits.{bit_or}
-use Rattle.std.proofs.lemmas.Nat.{pow-add, field_of, shr_high, shr-shr, shr_below, shl_whole, mul-le}
+use Rattle.std.proofs.lemmas.Nat.{pow-add, shr_high, shr-shr, shr_below, shl_whole, mul-le}
+use Rattle.std.proofs.lemmas.Nat.Bits.{bit_at_cat_low, bit_at_lowest}
 use Rattle.std.specs.Int.Bits.{or_shifted_r}
 use Rattle.line.specs.Kinds.{bit, line_of, word_of}
 use Rattle.line.specs.Levels.{level_of}
@@ -10,20 +10,9 @@ use Rattle.line.specs.Meaning.{appended, take_answer, take_after}
 use Rattle.line.proofs.Counting.{line_appended, take_some}
 use Rattle.line.proofs.Flags.{flag_of}
 
--- a bit is fixed by what the word leaves at the next power
-bit_by_rest : (v w k : ℕ) → v % 2 ^ (1 + k) ≡ w % 2 ^ (1 + k) → bit v k ≡ bit w k
-bit_by_rest v w k e = sym (field_of v 1 k) ∙ ap (λ r. r / 2 ^ k) e ∙ field_of w 1 k
-
 module _ (l n w : ℕ) (low : l ≤ 1) (clear : w < 2 ^ n) where
   bits_kept : (k : ℕ) → k < n → bit w k ≡ bit (l * 2 ^ n + w) k
-  bits_kept k h =
-      let d = n - (1 + k) in
-      let s : d + (1 + k) ≡ n = omega arith in
-      let p : 2 ^ n ≡ 2 ^ d * 2 ^ (1 + k) = ap (λ i. 2 ^ i) (sym s) ∙ pow-add 2 d (1 + k) in
-      let q : l * 2 ^ n + w ≡ w + l * 2 ^ d * 2 ^ (1 + k) =
-      add_comm (l * 2 ^ n) w ∙ ap (λ x. w + l * x) p ∙ ap (λ x. w + x) (sym (mul_assoc l (2 ^ d) (2 ^ (1 + k)))) in
-      bit_by_rest w (l * 2 ^ n + w) k
-      (sym (ap (λ x. x % 2 ^ (1 + k)) q ∙ add-mul-mod_self_right w (l * 2 ^ d) (2 ^ (1 + k))))
+  bits_kept k h = sym (bit_at_cat_low l n w k h)
 
   bit_added : bit (l * 2 ^ n + w) n ≡ l
   bit_added = ap (λ x. x % 2) (shr_high l n w clear) ∙ mod-eq_of_lt {n = l} {m = 2} (omega arith)
@@ -44,11 +33,9 @@ merged_clear w l n low h clear =
 
 pub ruleset put_lemmas = (merged, merged_clear, raised_word)
 
+-- by `shr-shr`: std's `bit_at-suc` speaks of `suc k`, and the places of a line of `1 + k`
 bits_down : (w k : ℕ) → bit w (1 + k) ≡ bit (w / 2) k
 bits_down w k = sym (ap (λ x. x % 2) (shr-shr w 1 k))
-
-lowest : (w : ℕ) → bit w 0 ≡ w % 2
-lowest w = ap (λ x. x % 2) (div-one w)
 
 pub half_clear : (w n m : ℕ) → n ≡ m + 1 → w < 2 ^ n → w / 2 < 2 ^ m
 half_clear w n m e h = shr_below w m 1 (subst (λ i. w < 2 ^ i) e h)
@@ -58,7 +45,7 @@ pub halved_word : (w n : ℕ) (last : Bool) → 0 < n
     → (Ok (level_of (eqb (w % 2) 1)) ≡ take_answer (word_of w n last))
     × (word_of (w / 2) (n - 1) (eqb (w % 2) 1) ≡ take_after (word_of w n last))
 halved_word w n last some =
-    let low : level_of (eqb (w % 2) 1) ≡ bit w 0 = flag_of (w % 2) (omega arith) ∙ sym (lowest w) in
+    let low : level_of (eqb (w % 2) 1) ≡ bit w 0 = flag_of (w % 2) (omega arith) ∙ sym (bit_at_lowest w) in
     let whole : n ≡ n - 1 + 1 = omega arith in
     let a = take_some 64 (level_of last) n (n - 1) (bit w) (bit (w / 2)) whole (λ k _. bits_down w k) in
     (ap Ok low ∙ a.0, ap (λ x. line_of 64 x (bit (w / 2)) (n - 1)) low ∙ a.1)

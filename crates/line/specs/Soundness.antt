@@ -4,6 +4,7 @@ use Rattle.std.proofs.Common.{sym, subst, ⊎_elim, zero-add, arith, lit<, lit�
 use Rattle.std.proofs.lemmas.List.FromFn.{length-map-range_with_len, get_or-map-range_with_len}
 use Rattle.std.proofs.lemmas.List.{get_or_past}
 use Rattle.std.proofs.lemmas.Bool.{cases_lt}
+use Rattle.std.proofs.lemmas.Nat.Bits.{bit_at-lt}
 use Rattle.line.specs.Levels.{level_low, level_of}
 use Rattle.line.specs.Meaning.{Levels, Sound}
 use Rattle.line.specs.Kinds.{held_levels, jumper_of, counted, line_of, bit, word_of}
@@ -38,8 +39,5 @@ pub counted_sound : (p last n : ℕ) (f : ℕ → ℕ) → n ≤ p → last < 2 
 counted_sound p last n f w b h =
     record { within = rw length_counted w; binary = b; levels = counted_levels f n h }
 
-pub bit_low : (w k : ℕ) → bit w k < 2
-bit_low w k = omega arith
-
 pub word_sound : (levels count : ℕ) (last : Bool) → count ≤ 64 → Sound (word_of levels count last)
-word_sound levels count last w = counted_sound 64 (level_of last) count (bit levels) w (level_low last) (λ k _. bit_low levels k)
+word_sound levels count last w = counted_sound 64 (level_of last) count (bit levels) w (level_low last) (λ k _. bit_at-lt levels k)
