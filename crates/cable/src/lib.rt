@@ -37,15 +37,6 @@ fn raise(bytes: &mut [u8])
     bytes[..places].fill(1);
 }
 
-// The byte that is k places on from the one where a ring begins.
-#[tactic(auto, using(crate::proofs::Rings::place_is))]
-fn byte_on(places: usize, first: usize, k: usize) -> usize
-    requires { (0 < places) × (places ≤ 4096) × (k ≤ 4096) }
-    ensures { result ≡ (first + k) % places }
-{
-    (first % places + k) % places
-}
-
 impl<'a> Cable<'a> {
     /// Empty, with level last taken 1. The bytes of its places are set to 1, and those beyond stand.
     /// Whatever is put and taken from then on, accepted put number i, from 0, writes byte i modulo places, and nothing else writes one.
@@ -78,6 +69,16 @@ impl<'a> Cable<'a> {
         &self.bytes[..]
     }
 
+    // The byte that is k places on from the one where the ring begins.
+    #[tactic(auto, using(crate::proofs::Rings::place_is))]
+    fn byte_on(&self, k: usize) -> usize
+        requires { (0 < places_over (length self.now.bytes.now)) × (k ≤ 4096) }
+        ensures { result ≡ (self.now.first + k) % places_over (length self.now.bytes.now) }
+    {
+        let places = self.places();
+        (self.first % places + k) % places
+    }
+
     // One level more.
     fn append(&mut self, level: u8)
         requires { (level ≤ 1) × (length (cable_meaning self.old).waiting < (cable_meaning self.old).places) }
@@ -85,7 +86,7 @@ impl<'a> Cable<'a> {
         ensures memory { cable_memory self.new ≡ cable_written self.old level }
     {
         let waiting = self.count();
-        let at = byte_on(self.places(), self.first, waiting);
+        let at = self.byte_on(waiting);
         self.bytes[at] = level;
         self.count = waiting + 1;
     }
@@ -97,10 +98,9 @@ impl<'a> Cable<'a> {
         ensures meaning { cable_meaning self.new ≡ take_after (cable_meaning self.old) }
         ensures memory { cable_memory self.new ≡ cable_memory self.old }
     {
-        let places = self.places();
-        let level = self.bytes[byte_on(places, self.first, 0)] % 2;
+        let level = self.bytes[self.byte_on(0)] % 2;
         self.count = self.count() - 1;
-        self.first = byte_on(places, self.first, 1);
+        self.first = self.byte_on(1);
         self.last = level == 1;
         level
     }
@@ -146,6 +146,6 @@ impl<'a> Line for Cable<'a> {
         if k >= self.count() {
             return None;
         }
-        Some(self.bytes[byte_on(self.places(), self.first, k)] % 2)
+        Some(self.bytes[self.byte_on(k)] % 2)
     }
 }

@@ -11,6 +11,7 @@ use refusal::Refusal;
 
 /// Makes a cable over the caller's bytes and performs acts on it, as `run` does.
 /// The caller's bytes are then as the accepted puts left them, and those beyond the cable's places as they were.
+// The acts and the answers are two slices of the caller's, as for `run`.
 pub fn run_over(bytes: &mut [u8], acts: &[Act], answers: &mut [Result<u8, Refusal>]) -> usize
     ensures count { result ≡ min (length acts.now) (length answers.old) }
     ensures done { DoneFromFresh (places_over (length bytes.old)) acts.now answers.new }
