@@ -77,6 +77,7 @@ impl<L: Line> Line for Nrzi<L> {
 
     ghost written = { λ s level. L.Line.written s.below (encoded_on (L.Line.meaning s.below) level) };
 
+    // An impl's own clauses stand in place of the trait's, so put and take say these again, to add `below`.
     // The line below is put the newest level for 1, and the other for 0.
     fn put(&mut self, level: u8) -> Result<u8, Refusal>
         ensures answer { result ≡ put_answer (nrzi_meaning L.Line.meaning self.old) level }
@@ -102,7 +103,7 @@ impl<L: Line> Line for Nrzi<L> {
         let before = self.below.last_taken();
         let level = self.below.take()?;
         self.answered = before == level;
-        Ok(decode(before, level))
+        Ok(self.last_taken())
     }
 
     #[tactic(auto, using(crate::specs::Soundness::decoded_length))]
