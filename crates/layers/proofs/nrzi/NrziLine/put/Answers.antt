@@ -1,4 +1,5 @@
 use Rattle.std.proofs.Common.{◌<◌, sym, subst, arith}
+use Rattle.std.proofs.lemmas.Bool.Decides.{nat_tests}
 use Rattle.line.specs.Levels.{level_of}
 use Rattle.layers.proofs.Differences.{newest_low, nrzi_put_after, nrzi_put_answer}
 use Rattle.layers.proofs.nrzi.NrziLine.put.Goals as goal
@@ -11,20 +12,11 @@ encode-requires g c =
     subst (λ n. n < 2) (sym c.newest-before.ensures) (newest_low m.last m.waiting s.binary s.levels) in
     omega arith
 
-pub returns-clause-answer : goal.returns-clause-answer
-returns-clause-answer g c =
+pub returns : goal.returns
+returns g c =
     let below = c.args.self.now.below in
-    let same = nrzi_put_answer (g.L.Line.meaning below) (level_of c.args.self.now.answered) c.args.level (g.L.Line.sound below) c.if-level-gt1.false in
-    grind arith
-
-pub returns-clause-after : goal.returns-clause-after
-returns-clause-after g c =
-    let below = c.args.self.now.below in
-    let same = nrzi_put_after (g.L.Line.meaning below) (level_of c.args.self.now.answered) c.args.level (g.L.Line.sound below) c.if-level-gt1.false in
-    grind arith
-
-pub returns-clause-stored : goal.returns-clause-stored
-returns-clause-stored g c =
-    let below = c.args.self.now.below in
-    let same = nrzi_put_answer (g.L.Line.meaning below) (level_of c.args.self.now.answered) c.args.level (g.L.Line.sound below) c.if-level-gt1.false in
-    grind arith
+    let m = g.L.Line.meaning below in
+    let a = level_of c.args.self.now.answered in
+    let answer = nrzi_put_answer m a c.args.level (g.L.Line.sound below) c.if-level-gt1.false in
+    let after = nrzi_put_after m a c.args.level (g.L.Line.sound below) c.if-level-gt1.false in
+    record { answer = grind arith; after = grind arith; stored = grind arith; below = grind (arith, nat_tests) }
