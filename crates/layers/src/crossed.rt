@@ -4,7 +4,7 @@ ghost use Rattle.layers.specs.Layers.{crossed, inverted};
 ghost use Rattle.layers.specs.Soundness.{crossed_sound};
 
 use crate::invert;
-use line::Line;
+use line::{Line, check_level};
 use refusal::Refusal;
 
 /// The crossed pair over any line.
@@ -34,9 +34,7 @@ impl<L: Line> Line for Crossed<L> {
 
     #[tactic(auto, using(crate::proofs::Crossing::crossed_lemmas))]
     fn put(&mut self, level: u8) -> Result<u8, Refusal> {
-        if level > 1 {
-            return Err(Refusal::LevelAboveOne);
-        }
+        check_level(level)?;
         self.below.put(invert(level))
     }
 

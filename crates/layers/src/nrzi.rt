@@ -8,7 +8,7 @@ ghost use Rattle.layers.specs.Soundness.{nrzi_sound};
 ghost use Rattle.std.specs.List.{slice_get};
 
 use crate::invert;
-use line::Line;
+use line::{Line, check_level};
 use refusal::Refusal;
 
 /// NRZI over any line, and the level that it answered last.
@@ -87,9 +87,7 @@ impl<L: Line> Line for Nrzi<L> {
             (L.Line.written self.old.below (encoded_on (L.Line.meaning self.old.below) level)) (L.Line.memory self.old.below) }
         ensures below { L.Line.meaning self.new.below ≡ nrzi_put_below (L.Line.meaning self.old.below) level }
     {
-        if level > 1 {
-            return Err(Refusal::LevelAboveOne);
-        }
+        check_level(level)?;
         let before = newest(&self.below);
         self.below.put(encode(before, level))
     }

@@ -38,6 +38,10 @@ abbrev pub if_accepted : {A : Type 0} → Answer → A → A → A
 if_accepted (Ok n) new old = new
 if_accepted (Err e) new old = old
 
+-- A level above 1 is refused.
+abbrev pub checked : ℕ → Answer
+checked level = cond (nat_lt 1 level) (Err LevelAboveOne) (Ok level)
+
 -- A put is refused first for its level, and then for want of a place; an accepted one answers 0.
 abbrev pub admitted : ℕ → ℕ → ℕ → Answer
 admitted level count places = cond (nat_lt 1 level) (Err LevelAboveOne) (cond (nat_le places count) (Err LineFull) (Ok 0))

@@ -3,7 +3,7 @@
 
 ghost use Rattle.std.specs.Prelude.{◌≡◌, ℕ, ◌<◌, ◌≤◌, length, OnOk};
 ghost use Rattle.std.specs.List.{slice_get};
-ghost use Rattle.line.specs.Meaning.{Meaning, Memory, Sound, admitted, if_accepted, put_answer, put_after, take_answer, take_after};
+ghost use Rattle.line.specs.Meaning.{Meaning, Memory, Sound, admitted, checked, if_accepted, put_answer, put_after, take_answer, take_after};
 
 use refusal::Refusal;
 
@@ -63,15 +63,26 @@ pub trait Line {
         ensures { result ≡ slice_get (meaning self.now).waiting k };
 }
 
-/// What a put of this level is answered where `count` of `places` places are taken.
+/// The level, or a refusal if it is above 1.
+// A layer calls it too, before it reads the line below: a put there would be told the level that the layer makes of this one.
+pub fn check_level(level: u8) -> Result<u8, Refusal>
+    ensures answer { result ≡ checked level }
+    ensures low { OnOk result (level ≤ 1) }
+{
+    if level > 1 {
+        Err(Refusal::LevelAboveOne)
+    } else {
+        Ok(level)
+    }
+}
+
+// What a put of this level is answered where `count` of `places` places are taken.
 // Each line's put is this and then a step of its own: as a method of the trait that step would ask its callers for room.
 pub fn admit(level: u8, count: usize, places: usize) -> Result<u8, Refusal>
     ensures answer { result ≡ admitted level count places }
     ensures room { OnOk result ((level ≤ 1) × (count < places)) }
 {
-    if level > 1 {
-        return Err(Refusal::LevelAboveOne);
-    }
+    check_level(level)?;
     if count >= places {
         return Err(Refusal::LineFull);
     }

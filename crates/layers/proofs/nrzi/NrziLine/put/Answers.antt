@@ -17,6 +17,6 @@ returns g c =
     let below = c.args.self.now.below in
     let m = g.L.Line.meaning below in
     let a = level_of c.args.self.now.answered in
-    let answer = nrzi_put_answer m a c.args.level (g.L.Line.sound below) c.if-level-gt1.false in
-    let after = nrzi_put_after m a c.args.level (g.L.Line.sound below) c.if-level-gt1.false in
+    let answer = nrzi_put_answer m a c.args.level (g.L.Line.sound below) c.in_ok-check_level.ensures.low in
+    let after = nrzi_put_after m a c.args.level (g.L.Line.sound below) c.in_ok-check_level.ensures.low in
     record { answer = grind arith; after = grind arith; stored = grind arith; below = grind (arith, nat_tests) }
