@@ -18,7 +18,7 @@ pub use over::run_over;
 const MOST: usize = 4096;
 
 /// A cable: a ring of as many places as there are bytes, at most 4096.
-// Every value of the fields means a line, so that it needs no invariant and layers can hold it by value.
+// Every value of the fields means a line (a count above the places counts as the places), so an invariant would only narrow what is defined.
 // The caller's bytes are the only memory, so the number of levels stands beside them.
 // No model: behind one, the end of the borrow no longer tells `run_over` what its caller's bytes are then.
 #[derive(Drop)]
