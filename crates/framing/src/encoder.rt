@@ -4,42 +4,16 @@ ghost use Rattle.fcs.specs.Fcs.{low_bits, byte_bits};
 ghost use Rattle.framing.specs.Insertion.{frame_bits};
 ghost use Rattle.framing.specs.Laws.{ReadBack, InsertionUndone};
 ghost use Rattle.framing.specs.Reading.{flag_bits};
-ghost use Rattle.framing.specs.Stages.{nothing, sent_bit, sent};
+ghost use Rattle.framing.specs.Stages.{sent_bit, sent};
 
+use crate::run::Run;
 use std::alloc::{AllocError, Global};
-use std::marker::Model;
 
 // A flag: six 1s between two 0s.
 const FLAG: [bool; 8] = [false, true, true, true, true, true, true, false];
 
-// The bits so far, and how many content bits of 1 came last with no 0 inserted since the first of them.
-#[derive(Drop)]
-pub struct Encoder {
-    bits: Vec<bool>,
-    run: u8,
-}
-
-impl Model for Encoder {
-    ghost use Rattle.std.specs.Prelude.{◌≤◌};
-    ghost use Rattle.framing.specs.Stages.{Counted};
-
-    ghost Value = { Counted };
-
-    ghost view = { λ e. record { bits = e.bits.items; run = e.run } };
-
-    ghost invariant = { λ e. e.run ≤ 4 };
-}
-
-impl Encoder {
-    fn new(heap: Global) -> Encoder
-        ensures { result ≡ nothing }
-    {
-        Encoder {
-            bits: Vec::new(heap),
-            run: 0,
-        }
-    }
-
+// A bit of 1 is the fifth in a row, and a 0 follows it, where four came before.
+impl Run<4> {
     // A flag goes out as it is: zero insertion has no part in it.
     fn flag(&mut self) -> Result<(), AllocError>
         ensures bits { OnOk result (self.new.bits ≡ self.old.bits ++ flag_bits) }
@@ -97,7 +71,7 @@ pub fn encode(heap: Global, bytes: &[u8]) -> Result<Vec<bool>, AllocError>
     ensures read_back { IfOk result (λ v. ReadBack bytes.now v.items) }
     ensures undone { InsertionUndone }
 {
-    let mut line = Encoder::new(heap);
+    let mut line = Run::<4>::new(heap);
     line.flag()?;
     line.bytes(bytes)?;
     line.low_bits(fcs::fcs_check_sequence(bytes), 16)?;

@@ -12,6 +12,7 @@ mod encoder;
 pub mod outcome;
 mod packing;
 mod reader;
+mod run;
 
 pub use encoder::encode;
 pub use outcome::{Stretch, Verdict};

@@ -42,7 +42,7 @@ fn judge_since(heap: Global, bits: &[bool]) -> Result<Stretch, AllocError>
 // The 1s in a row that came last, at most seven; the bits since the latest flag, if one has ended and no abort since; and the stretches
 // so far. Seven 1s stand for a start with no 0 yet too: neither a flag nor an abort that matters ends before the first 0.
 #[derive(Drop)]
-pub struct Reader {
+struct Reader {
     heap: Global,
     ones: u8,
     since: Option<Vec<bool>>,
