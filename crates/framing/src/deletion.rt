@@ -10,16 +10,10 @@ impl Run<5> {
     fn bit(&mut self, bit: bool) -> Result<(), AllocError>
         ensures { OnOk result (self.new ≡ kept_bit self.old bit) }
     {
-        // Two pushes: with one for both bits the loop of `read` was slower (docs/PERFORMANCE.md).
-        if bit {
-            self.bits.push(true)?;
-            self.run = (self.run + 1).min(5);
-            return Ok(());
+        if bit || self.run != 5 {
+            self.bits.push(bit)?;
         }
-        if self.run != 5 {
-            self.bits.push(false)?;
-        }
-        self.run = 0;
+        self.run = if bit { (self.run + 1).min(5) } else { 0 };
         Ok(())
     }
 }

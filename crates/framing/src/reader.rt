@@ -102,14 +102,12 @@ impl Reader {
     fn bit(&mut self, bit: bool) -> Result<(), AllocError>
         ensures { OnOk result (self.new ≡ received self.old bit) }
     {
-        // In a local: read from the field, it made the loop of `read` slower (docs/PERFORMANCE.md).
-        let ones = self.ones;
-        match (ones, bit) {
+        match (self.ones, bit) {
             (6, true) => self.since = None,
             (6, false) => self.close()?,
             _ => self.keep(bit)?,
         }
-        self.ones = if bit { (ones + 1).min(7) } else { 0 };
+        self.ones = if bit { (self.ones + 1).min(7) } else { 0 };
         Ok(())
     }
 }
