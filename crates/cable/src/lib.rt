@@ -79,7 +79,8 @@ impl<'a> Cable<'a> {
         (self.first % places + k) % places
     }
 
-    // One level more.
+    // One level more. It stands apart from `put`, as `shift` from `take`: the proofs of these two are written by hand, and a wrong call of
+    // either is then refused where it stands.
     fn append(&mut self, level: u8)
         requires { (level ≤ 1) × (length (cable_meaning self.old).waiting < (cable_meaning self.old).places) }
         ensures meaning { cable_meaning self.new ≡ appended (cable_meaning self.old) level }

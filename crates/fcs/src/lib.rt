@@ -91,7 +91,8 @@ pub fn byte_step(register: u16, byte: u8) -> u16
     entry_at(index as usize) ^ (register >> 8)
 }
 
-// What the check is taken over: a value that stands for bits, in the order in which they are sent.
+// What the check is taken over: a value that stands for bits, in the order in which they are sent. `bit_step` and `byte_step` stay for those
+// who hold a register of their own.
 pub trait CheckUnit: Copy {
     ghost bits: { Self → List Bool };
 

@@ -20,7 +20,7 @@ fn acts(heap: Global, count: usize) -> Result<Vec<Act>, AllocError> {
         .collect(heap)
 }
 
-// The levels of the puts that were accepted.
+// The levels of the puts that were accepted. Acts and answers stand in two lists, as `run` takes them.
 fn accepted(
     heap: Global,
     acts: &[Act],
