@@ -39,5 +39,8 @@ pub counted_sound : (p last n : ℕ) (f : ℕ → ℕ) → n ≤ p → last < 2 
 counted_sound p last n f w b h =
     record { within = rw length_counted w; binary = b; levels = counted_levels f n h }
 
+pub bit_low : (w k : ℕ) → bit w k < 2
+bit_low = bit_at-lt
+
 pub word_sound : (levels count : ℕ) (last : Bool) → count ≤ 64 → Sound (word_of levels count last)
-word_sound levels count last w = counted_sound 64 (level_of last) count (bit levels) w (level_low last) (λ k _. bit_at-lt levels k)
+word_sound levels count last w = counted_sound 64 (level_of last) count (bit levels) w (level_low last) (λ k _. bit_low levels k)
