@@ -1,4 +1,5 @@
-// The check sequence for C: the two functions of the crate fcs, under the names and with the arguments that jig/fcs.h declares.
+// The check sequence for C: the two functions of the crate fcs, under the names and with the arguments that jig/fcs.h declares. They stand in a
+// crate of their own, with clauses of their own, since a crate is a library or a static library.
 #![tactic(auto)]
 
 ghost use Rattle.std.specs.Prelude.{◌≡◌, if◌then◌else◌};

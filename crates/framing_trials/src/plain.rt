@@ -1,6 +1,6 @@
 // A second reader of line bits, written from the rules by places in the list and with no state, to compare `framing::read` with on
-// random streams. It shares only the type of a stretch with `framing`: its flag, its limits and its check register, which goes bit by bit
-// and by no table, stand here a second time so that a mistake there would show.
+// random streams. It shares only the type of a stretch with `framing`: its flag, its limits, its bytes and its check register, which goes
+// bit by bit and by no table, stand here a second time so that a mistake there would show.
 use framing::{Stretch, Verdict};
 use std::alloc::{AllocError, Global};
 

@@ -65,7 +65,7 @@ impl<L: Line> Trial<L> {
         }
     }
 
-    // One act on both.
+    // One act on both. The plain list has a method for each act, as a line has, so a match says which.
     fn act(&mut self) -> anyhow::Result<()> {
         let act = self.next_act();
         let theirs = match act {
