@@ -71,6 +71,10 @@ closes (Some bits) found = found ++ (judged_since bits ∷ [])
 abbrev pub closed_by : ReaderState → ReaderState
 closed_by s = record { ones = s.ones; since = Some []; found = closes s.since s.found }
 
+-- after an abort no bit is kept until the next flag
+abbrev pub aborted_by : ReaderState → ReaderState
+aborted_by s = record { ones = s.ones; since = None; found = s.found }
+
 -- a bit after exactly six 1s: a 1 ends an abort, and a 0 a flag
 abbrev pub ended_by : ReaderState → Bool → ReaderState
 ended_by s true = record { ones = 7; since = None; found = s.found }

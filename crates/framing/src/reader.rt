@@ -3,13 +3,14 @@ ghost use Rattle.std.specs.Prelude.{◌≡◌, ◌-◌, map, length, take, IfOk,
 ghost use Rattle.framing.specs.Bytes.{bytes};
 ghost use Rattle.framing.specs.Laws.{BurstLaw};
 ghost use Rattle.framing.specs.Reading.{as_read, judged, reading};
-ghost use Rattle.framing.specs.Stages.{judged_since, initial_state, kept_by, closed_by, received};
+ghost use Rattle.framing.specs.Stages.{judged_since, initial_state, kept_by, closed_by, aborted_by, received};
 
 use crate::deletion::without_inserted;
 use crate::outcome::{Stretch, Verdict};
 use crate::packing::packed;
 use std::alloc::{AllocError, Global};
 use std::marker::Model;
+use std::mem;
 
 // All bits but the last 16, which are the check sequence, in bytes.
 fn content(heap: Global, bits: &[bool]) -> Result<Vec<u8>, AllocError>
@@ -41,16 +42,19 @@ fn judge_since(heap: Global, bits: &[bool]) -> Result<Stretch, AllocError>
 
 // The 1s in a row that came last, at most seven; the bits since the latest flag, if one has ended and no abort since; and the stretches
 // so far. Seven 1s stand for a start with no 0 yet too: neither a flag nor an abort that matters ends before the first 0.
+// After an abort the memory of its bits waits, empty, for those after the next flag: given back and asked for anew at each abort, it made
+// streams with many aborts a third slower.
 #[derive(Drop)]
 struct Reader {
     heap: Global,
     ones: u8,
     since: Option<Vec<bool>>,
+    spare: Vec<bool>,
     found: Vec<Stretch>,
 }
 
 impl Model for Reader {
-    ghost use Rattle.std.specs.Prelude.{◌≤◌, map, vec_items};
+    ghost use Rattle.std.specs.Prelude.{◌≡◌, ◌≤◌, [], map, vec_items};
     ghost use Rattle.std.specs.Option.{option_map};
     ghost use Rattle.framing.specs.Reading.{as_read};
     ghost use Rattle.framing.specs.Stages.{ReaderState};
@@ -59,7 +63,7 @@ impl Model for Reader {
 
     ghost view = { λ r. record { ones = r.ones; since = option_map vec_items r.since; found = map as_read r.found.items } };
 
-    ghost invariant = { λ r. r.ones ≤ 7 };
+    ghost invariant = { λ r. (r.ones ≤ 7) × (r.spare.items ≡ []) };
 }
 
 impl Reader {
@@ -70,6 +74,7 @@ impl Reader {
             heap,
             ones: 7,
             since: None,
+            spare: Vec::new(heap),
             found: Vec::new(heap),
         }
     }
@@ -93,17 +98,27 @@ impl Reader {
                 self.found.push(judge_since(self.heap, bits)?)?;
                 bits.clear();
             }
-            None => self.since = Some(Vec::new(self.heap)),
+            None => self.since = Some(mem::replace(&mut self.spare, Vec::new(self.heap))),
         }
         Ok(())
     }
 
-    // After six 1s another 1 ends an abort, and what came since the latest flag is no part of any stretch; a 0 ends a flag.
+    // An abort ends: what came since the latest flag is no part of any stretch.
+    fn abort(&mut self)
+        ensures { self.new ≡ aborted_by self.old }
+    {
+        if let Some(mut bits) = self.since.take() {
+            bits.clear();
+            self.spare = bits;
+        }
+    }
+
+    // After six 1s another 1 ends an abort, and a 0 ends a flag.
     fn bit(&mut self, bit: bool) -> Result<(), AllocError>
         ensures { OnOk result (self.new ≡ received self.old bit) }
     {
         match (self.ones, bit) {
-            (6, true) => self.since = None,
+            (6, true) => self.abort(),
             (6, false) => self.close()?,
             _ => self.keep(bit)?,
         }
