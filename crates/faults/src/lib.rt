@@ -61,8 +61,7 @@ fn digit_character(digit: u8) -> char
     lower.to_ascii_uppercase()
 }
 
-// The two upper-case hexadecimal digits of a byte, the high one first. It is public, so it stays for its callers; the texts here are printed
-// by `{:02X}`.
+// The two upper-case hexadecimal digits of a byte, the high one first. The one byte of a message is printed by `{:02X}`.
 pub fn hex_digits(byte: u8) -> (char, char)
     ensures glyphs { result ≡ (digit_glyph (byte / 16), digit_glyph (byte % 16)) }
     ensures ascii { (result.0 < 128) × (result.1 < 128) }

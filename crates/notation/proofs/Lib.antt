@@ -1,7 +1,6 @@
 pub mod Back
 pub mod Glyphs
 pub mod Pairs
-pub mod Printed
 pub mod Texts
 pub mod Turns
 pub mod Words

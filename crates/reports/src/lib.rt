@@ -11,7 +11,7 @@ use faults::Fault;
 use fcs::{fcs_check_sequence, fcs_matches};
 use framing::{Stretch, Verdict};
 use notation::bits::{bit_text, parse_bits};
-use notation::hex::HexWords;
+use notation::hex::{HexWords, SequenceWord};
 use std::alloc::{AllocError, Global};
 use std::fmt;
 use std::fmt::Write;
@@ -39,14 +39,11 @@ struct SequenceLine(u16);
 impl fmt::Display for SequenceLine {
     ghost output = { λ line. Some (sequence_line line.0) };
 
-    #[tactic(auto, using(crate::proofs::Sequence::sequence_steps))]
     fn fmt<W: fmt::Write>(&self, f: &mut fmt::Formatter<W>) -> fmt::Result {
-        let sequence = self.0;
-        let [low, high] = sequence.to_le_bytes();
-        writeln!(
-            f,
-            "check sequence: {sequence:04X}, sent as {low:02X} {high:02X}"
-        )
+        let word = SequenceWord(self.0);
+        let bytes = self.0.to_le_bytes();
+        let sent = HexWords(&bytes);
+        writeln!(f, "check sequence: {word}, sent as {sent}")
     }
 }
 

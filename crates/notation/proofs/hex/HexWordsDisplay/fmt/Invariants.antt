@@ -1,9 +1,10 @@
-use Rattle.std.proofs.Common.{take}
-use Rattle.std.specs.Fmt.{HasWritten, IsPlainFormatter}
-use Rattle.std.specs.List.{flat_map}
-use Rattle.notation.proofs.Pairs.{after_blank}
+use Rattle.std.proofs.Common.{◌≡◌}
+use Rattle.std.specs.Fmt.{IsPlainFormatter}
+use Rattle.notation.specs.Hex.{hex_text}
+use Rattle.notation.proofs.Pairs.{WrittenTo}
 use Rattle.notation.proofs.hex.HexWordsDisplay.fmt.Given as goal
 
-abbrev pub invariant-loop-byte : goal.invariant-loop-byte
-invariant-loop-byte g l =
-    IsPlainFormatter l.initial.f → HasWritten g.W.Write.write_str_gives l.initial.f (flat_map after_blank (take l.byte-index l.rest)) l.f
+abbrev pub invariant-loop-some : goal.invariant-loop-some
+invariant-loop-some g l =
+    (l.some-iterator.size ≡ 16)
+    × (IsPlainFormatter l.fn.f → WrittenTo g.W.Write.write_str_gives l.fn.f (hex_text l.fn.self.0.now) l.some-iterator.rest.now l.f)
