@@ -1,7 +1,7 @@
 -- A layer puts on the line below: the answer is the line's own, and what then stands is seen through the layer.
 use Rattle.std.proofs.Common.{◌≡◌, ℕ, ◌≤◌, length, Ok, Err, sym, refl, ap, ◌∙◌, arith}
 use Rattle.std.proofs.lemmas.Bool.Decides.{nat_tests}
-use Rattle.line.specs.Meaning.{Answer, Meaning, admitted, appended, if_accepted, put_answer, put_after}
+use Rattle.line.specs.Meaning.{Answer, Meaning, Memory, admitted, appended, if_accepted, put_answer, put_after}
 
 -- a level is admitted like any other
 admitted_same : (l e n p : ℕ) → l ≤ 1 → e ≤ 1 → admitted l n p ≡ admitted e n p
@@ -24,3 +24,11 @@ module _ (over : Meaning → Meaning) (m : Meaning) (l e : ℕ) (low : l ≤ 1) 
       ap (λ a. if_accepted a (appended (over m) l) (over m)) layer_answer
       ∙ ap (λ x. if_accepted (put_answer m e) x (over m)) more
       ∙ sym (accepted_through over (put_answer m e) (appended m e) m)
+
+-- what the line below keeps of a put of y, where x is what went there
+pub layer_stored : (m : Meaning) (written : ℕ → Memory) (memory kept : Memory) (x y : ℕ) (r : Answer)
+    → kept ≡ if_accepted (put_answer m x) (written x) memory → x ≡ y → r ≡ put_answer m y → kept ≡ if_accepted r (written y) memory
+layer_stored m written memory kept x y r s e a =
+    s
+    ∙ ap (λ v. if_accepted (put_answer m v) (written v) memory) e
+    ∙ ap (λ v. if_accepted v (written y) memory) (sym a)

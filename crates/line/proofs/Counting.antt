@@ -17,17 +17,17 @@ from_places f g a b n h =
     let t : i < n = omega arith in
     get_or-map-range_with_len f a n i (a + i) 0 t refl ∙ h i t ∙ sym (get_or-map-range_with_len g b n i (b + i) 0 t refl))
 
-counted_same : (f g : ℕ → ℕ) (n : ℕ) → ((k : ℕ) → k < n → f k ≡ g k) → counted f n ≡ counted g n
+pub counted_same : (f g : ℕ → ℕ) (n : ℕ) → ((k : ℕ) → k < n → f k ≡ g k) → counted f n ≡ counted g n
 counted_same f g n h = from_places f g 0 0 n (λ k l. rw zero-add (h k l))
 
 -- a put
-counted_push : (f g : ℕ → ℕ) (n l : ℕ) → ((k : ℕ) → k < n → f k ≡ g k) → g n ≡ l → counted g (n + 1) ≡ counted f n ++ l ∷ []
+pub counted_push : (f g : ℕ → ℕ) (n l : ℕ) → ((k : ℕ) → k < n → f k ≡ g k) → g n ≡ l → counted g (n + 1) ≡ counted f n ++ l ∷ []
 counted_push f g n l h e =
     let s = counted_same f g n h in
     map-range_with_len_more g 0 n n (zero-add n) ∙ ap (λ xs. xs ++ g n ∷ []) (sym s) ∙ ap (λ x. counted f n ++ x ∷ []) e
 
 -- a take
-counted_pull : (f g : ℕ → ℕ) (n : ℕ) → ((k : ℕ) → k < n → f (1 + k) ≡ g k) → counted f (n + 1) ≡ f 0 ∷ counted g n
+pub counted_pull : (f g : ℕ → ℕ) (n : ℕ) → ((k : ℕ) → k < n → f (1 + k) ≡ g k) → counted f (n + 1) ≡ f 0 ∷ counted g n
 counted_pull f g n h =
     rw add-one (ap (λ xs. f 0 ∷ xs) (from_places f g 1 0 n (λ k l. rw (zero-add k) (h k l))))
 

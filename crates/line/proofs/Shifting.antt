@@ -11,11 +11,17 @@ use Rattle.line.proofs.Counting.{line_appended, take_some}
 use Rattle.line.proofs.Flags.{flag_of}
 
 module _ (l n w : ℕ) (low : l ≤ 1) (clear : w < 2 ^ n) where
-  bits_kept : (k : ℕ) → k < n → bit w k ≡ bit (l * 2 ^ n + w) k
+  pub bits_kept : (k : ℕ) → k < n → bit w k ≡ bit (l * 2 ^ n + w) k
   bits_kept k h = sym (bit_at_cat_low l n w k h)
 
-  bit_added : bit (l * 2 ^ n + w) n ≡ l
+  pub bit_added : bit (l * 2 ^ n + w) n ≡ l
   bit_added = ap (λ x. x % 2) (shr_high l n w clear) ∙ mod-eq_of_lt {n = l} {m = 2} (omega arith)
+
+  pub still_clear : l * 2 ^ n + w < 2 ^ (n + 1)
+  still_clear =
+      let p : 2 ^ (n + 1) ≡ 2 ^ n * 2 = pow-add 2 n 1 in
+      let z : l * 2 ^ n ≤ 1 * 2 ^ n = mul-le l (2 ^ n) 1 (2 ^ n) low (omega arith) in
+      omega arith
 
   pub raised_word : (last : Bool) → word_of (l * 2 ^ n + w) (n + 1) last ≡ appended (word_of w n last) l
   raised_word last = line_appended 64 (level_of last) n l (bit w) (bit (l * 2 ^ n + w)) bits_kept bit_added
@@ -25,16 +31,12 @@ pub merged : (w l n : ℕ) → l ≤ 1 → n < 64 → w < 2 ^ n → bit_or w (l 
 merged w l n low h clear = ap (bit_or w) (shl_whole l 1 n 64 (omega arith) (omega arith)) ∙ or_shifted_r l n w clear
 
 pub merged_clear : (w l n : ℕ) → l ≤ 1 → n < 64 → w < 2 ^ n → bit_or w (l * 2 ^ n % 2 ^ 64) < 2 ^ (n + 1)
-merged_clear w l n low h clear =
-    let e = merged w l n low h clear in
-    let p : 2 ^ (n + 1) ≡ 2 ^ n * 2 = pow-add 2 n 1 in
-    let z : l * 2 ^ n ≤ 1 * 2 ^ n = mul-le l (2 ^ n) 1 (2 ^ n) low (omega arith) in
-    omega arith
+merged_clear w l n low h clear = subst (λ x. x < 2 ^ (n + 1)) (sym (merged w l n low h clear)) (still_clear l n w low clear)
 
 pub ruleset put_lemmas = (merged, merged_clear, raised_word)
 
 -- by `shr-shr`: std's `bit_at-suc` speaks of `suc k`, and the places of a line of `1 + k`
-bits_down : (w k : ℕ) → bit w (1 + k) ≡ bit (w / 2) k
+pub bits_down : (w k : ℕ) → bit w (1 + k) ≡ bit (w / 2) k
 bits_down w k = sym (ap (λ x. x % 2) (shr-shr w 1 k))
 
 pub half_clear : (w n m : ℕ) → n ≡ m + 1 → w < 2 ^ n → w / 2 < 2 ^ m

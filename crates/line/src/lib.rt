@@ -76,7 +76,7 @@ pub fn check_level(level: u8) -> Result<u8, Refusal>
     }
 }
 
-// What a put of this level is answered where `count` of `places` places are taken.
+/// What a put of this level is answered where `count` of `places` places are taken.
 // Each line's put is this and then a step of its own: as a method of the trait that step would ask its callers for room.
 pub fn admit(level: u8, count: usize, places: usize) -> Result<u8, Refusal>
     ensures answer { result ≡ admitted level count places }
